@@ -1,6 +1,7 @@
 """What the benches share: their words, one run's processor time and memory, the least of several, and tables."""
 import argparse
 import atexit
+import datetime
 import functools
 import os
 import pathlib
@@ -9,8 +10,10 @@ import shutil
 import subprocess
 import sys
 import tempfile
+import time
 
 TOP = pathlib.Path(__file__).resolve().parent.parent
+PAGE = TOP / "docs" / "FIGURES.md"
 # The module and the trace in which each write takes some four pulses: cells miss, wear out and get spares.
 FOUR_PULSES = "--banks 4 --regions 2 --lines 64 --spares 256 --lo 200 --hi 2000 --misses 3 --seed 7"
 FOUR_PULSES_TRACE = "--write-percent 50 --cuts 32 --step 40 --hot 16 --seed 7"
@@ -108,3 +111,31 @@ def print_row(*cells):
 
 def ratio(one, other):
     return f"{one / other:.2f}" if other else ""
+
+
+def timed(folder, *asked, **how):
+    """Runs a command, and answers its minutes, its processor minutes, and what it printed."""
+    begun = time.monotonic()
+    process = subprocess.Popen(asked, cwd=folder, stdin=subprocess.DEVNULL, stdout=subprocess.PIPE, stderr=subprocess.STDOUT, text=True, errors="replace", **how)
+    said = process.stdout.read()
+    _, status, spent = os.wait4(process.pid, 0)
+    process.returncode = os.waitstatus_to_exitcode(status)
+    if process.returncode != 0:
+        sys.exit(f"{pathlib.Path(sys.argv[0]).name}: {' '.join(asked)}: status {process.returncode}\n{said[-1000:]}")
+    return (time.monotonic() - begun) / 60, (spent.ru_utime + spent.ru_stime) / 60, said
+
+
+def machine():
+    """The processor's name, how many there are, and today's date."""
+    name = re.search(r"^model name\s*: (.*)$", pathlib.Path("/proc/cpuinfo").read_text(), re.M)
+    return f"{name[1] if name else 'Unknown processor'}, {os.cpu_count()} processors, {datetime.date.today()}."
+
+
+def write(name, text):
+    """Writes a section of docs/FIGURES.md, with the machine and the date."""
+    page = PAGE.read_text(encoding="utf-8")
+    found = f"<!-- {name} -->\n{text}\n\n{machine()}\n<!-- /{name} -->"
+    written = re.sub(rf"(?s)<!-- {name} -->.*<!-- /{name} -->", lambda _: found, page)
+    if written == page:
+        sys.exit(f"{pathlib.Path(sys.argv[0]).name}: {PAGE.relative_to(TOP)} has no section {name}, or it is as it was")
+    PAGE.write_text(written, encoding="utf-8")

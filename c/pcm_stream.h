@@ -152,6 +152,8 @@ struct pcm {
     uint32_t settles;      /* how many were sent, those of calls that take all among them, whose PCM_SETTLED wasn't taken yet */
     pcm_logger log;        /* the caller's, from pcm_open on, which sets it to NULL: each row is handed to it, with `context` */
     void *context;
+    int control;           /* of pcm_copy.h: by what copies are asked for; 0: there are none */
+    int is_heard;          /* of pcm_copy.h: whether the program has said that it can be copied */
     size_t held, begin, end;
     char out[16384];       /* rows that are still to be handed to the program */
     char in[PCM_MOST_WAITING + 2 * PCM_MOST_ROW]; /* answers that were taken from it */
@@ -217,7 +219,8 @@ static inline enum pcm_result pcm_finish(struct pcm *pcm);
 /* Closes all, waits for the program, and answers its status; -1 where the system tells none, as where it was killed. Behind pcm_finish the answers
    that are left are taken and dropped, and the status is that of all rows: 0, or 1 where some row fell short; 2 where the words are wrong, 3
    where a row is, 6 where there are too many, 7 where memory ran out. Without pcm_finish rows that wait to be sent are dropped, and nobody takes
-   what the program still says: if it says anything, the status may be 5, with `write fault` on standard error. */
+   what the program still says: if it says anything, the status may be 5, with `write fault` on standard error; a module that can be copied
+   (pcm_copy.h) ends then without a word, and the status is -1. */
 static inline int pcm_close(struct pcm *pcm);
 
 /* From here on: how. */
@@ -258,8 +261,15 @@ static inline int pcm__pair(int ends[2], int is_to_take)
     return -1;
 }
 
+/* How a program is started: in a group of its own, by these variables, and with a further descriptor, where that isn't 0. */
+struct pcm__how {
+    int is_apart;
+    char *const *variables;
+    int more;
+};
+
 /* Starts the program over its ends of the streams. 0, or a number of errno.h. */
-static inline int pcm__start(struct pcm *pcm, const char *const words[], int is_apart, int in, int out)
+static inline int pcm__start(struct pcm *pcm, const char *const words[], const struct pcm__how *as, int in, int out)
 {
     posix_spawn_file_actions_t actions;
     posix_spawnattr_t how;
@@ -271,15 +281,17 @@ static inline int pcm__start(struct pcm *pcm, const char *const words[], int is_
         fault = posix_spawn_file_actions_adddup2(&actions, in, 0);
         if (fault == 0)
             fault = posix_spawn_file_actions_adddup2(&actions, out, 1);
-        if (fault == 0 && is_apart)
+        if (fault == 0 && as->more != 0)
+            fault = posix_spawn_file_actions_adddup2(&actions, as->more, as->more);
+        if (fault == 0 && as->is_apart)
             fault = posix_spawnattr_setpgroup(&how, 0);
-        if (fault == 0 && is_apart)
+        if (fault == 0 && as->is_apart)
             fault = posix_spawnattr_setflags(&how, POSIX_SPAWN_SETPGROUP);
         /* (its words are only read, but its type doesn't say so) */
         char *const *lent;
         memcpy(&lent, &words, sizeof lent);
         if (fault == 0)
-            fault = posix_spawnp(&pcm->process, words[0], &actions, &how, lent, environ);
+            fault = posix_spawnp(&pcm->process, words[0], &actions, &how, lent, as->variables);
         posix_spawnattr_destroy(&how);
     }
     posix_spawn_file_actions_destroy(&actions);
@@ -310,7 +322,7 @@ static inline void pcm__shut(struct pcm *pcm)
     errno = fault;
 }
 
-static inline enum pcm_result pcm__open(struct pcm *pcm, const char *const words[], int is_apart)
+static inline enum pcm_result pcm__open(struct pcm *pcm, const char *const words[], const struct pcm__how *how)
 {
     int to[2], from[2];
     memset(pcm, 0, offsetof(struct pcm, out));
@@ -329,7 +341,7 @@ static inline enum pcm_result pcm__open(struct pcm *pcm, const char *const words
         close(to[1]);
         return PCM_FAILED;
     }
-    int fault = pcm__start(pcm, words, is_apart, to[0], from[1]);
+    int fault = pcm__start(pcm, words, how, to[0], from[1]);
     close(to[0]);
     close(from[1]);
     pcm->to = to[1];
@@ -349,12 +361,14 @@ static inline enum pcm_result pcm__open(struct pcm *pcm, const char *const words
 
 static inline enum pcm_result pcm_open(struct pcm *pcm, const char *const words[])
 {
-    return pcm__open(pcm, words, 0);
+    const struct pcm__how how = {0, environ, 0};
+    return pcm__open(pcm, words, &how);
 }
 
 static inline enum pcm_result pcm_open_apart(struct pcm *pcm, const char *const words[])
 {
-    return pcm__open(pcm, words, 1);
+    const struct pcm__how how = {1, environ, 0};
+    return pcm__open(pcm, words, &how);
 }
 
 /* Takes answers into what room there is. */
@@ -957,19 +971,38 @@ static inline enum pcm_result pcm_finish(struct pcm *pcm)
     return PCM_OK;
 }
 
+/* Closes what copies are asked by, once the program has ended; the status that it told of itself, or -1. */
+static inline int pcm__part(struct pcm *pcm)
+{
+    unsigned char told[16];
+    int status = -1;
+    ssize_t got;
+    while (pcm->control > 0 && ((got = recv(pcm->control, told, sizeof told, 0)) > 0 || (got < 0 && errno == EINTR)))
+        status = got == 2 && told[0] == 'e' ? told[1] : status;
+    if (pcm->control > 0)
+        close(pcm->control);
+    pcm->control = pcm->is_heard = 0;
+    return status;
+}
+
 static inline int pcm_close(struct pcm *pcm)
 {
-    int status = 0;
+    int status = 0, is_broken_off = pcm->control > 0 && pcm->to > 0 && send(pcm->control, "q", 1, MSG_NOSIGNAL) == 1;
     ssize_t got = 1;
     /* (behind pcm_finish the program goes on to its end, as long as somebody takes what it says) */
     while (pcm->to <= 0 && pcm->from > 0 && (got > 0 || (got < 0 && errno == EINTR)))
         got = read(pcm->from, pcm->in, sizeof pcm->in);
     pcm__shut(pcm);
+    int told = pcm__part(pcm);
     pid_t ended = -1;
     while (pcm->process > 0 && (ended = waitpid(pcm->process, &status, 0)) < 0 && errno == EINTR)
         ;
+    if (pcm->process <= 0 || is_broken_off)
+        status = is_broken_off ? -1 : told;
+    else
+        status = ended > 0 && WIFEXITED(status) ? WEXITSTATUS(status) : -1;
     pcm->process = -1;
-    return ended > 0 && WIFEXITED(status) ? WEXITSTATUS(status) : -1;
+    return status;
 }
 
 #ifdef __cplusplus

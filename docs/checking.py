@@ -76,9 +76,16 @@ def misfits(crate):
             yield f"{edit.parent.name}/{edit.name}"
 
 
+def is_single(crate):
+    """Whether each gate tries one wrong body of a crate alone, which it checks from nothing."""
+    return len(bodies.bodies(crate, bodies.GATE)) == 1
+
+
 def check_edits():
     """(`rt ci` passes over a wrong body that can't be made)"""
     for crate in crates.listed().values():
+        if is_single(crate.folder):
+            yield f"crates/{crate.name}/must-fail: a single wrong body costs a gate a whole check: it belongs into wrong/"
         yield from (f"crates/{crate.name}/{name}: what it changes doesn't stand once in its file" for name in misfits(crate.folder))
     yield None
 
@@ -261,8 +268,8 @@ def vocabulary():
     """All words of code, definitions, proofs, wrong bodies and scripts, and the names of files and libraries."""
     own = [file for crate in crates.listed().values() for file in crate.files(*crates.PARTS, bodies.GATE, bodies.LATER)]
     scripts = [*TOP.glob("tools/*"), *TOP.glob("bench/*"), *TOP.glob("docs/**/*.py"), TOP / "docs" / "check", TOP / "pcm", TOP / ".ci" / "run"]
-    examples = [it for folder in ("examples", "python", "c") for it in TOP.glob(f"{folder}/**/*") if it.is_file()]
-    texts = [it for it in (*own, *scripts, *examples) if it.is_file() and it.suffix in ("", ".rt", ".antt", ".edit", ".py", ".sh", ".awk", ".c", ".h", ".cpp")]
+    examples = [it for folder in ("examples", "python", "c") for it in TOP.glob(f"{folder}/**/*") if it.is_file() and "out" not in it.parts]
+    texts = [it for it in (*own, *scripts, *examples) if it.is_file() and it.suffix in ("", ".rt", ".antt", ".edit", ".py", ".sh", ".awk", ".c", ".h", ".cpp", ".hpp")]
     names = {part for file in (*texts, *examples) for part in (file.stem, file.parent.name)}
     texts += [it for it in TOP.glob("crates/*/stdin")]
     return words_of(texts) | names | FOREIGN | {it for crate in crates.listed().values() for it in (crate.name, *crate.libraries)}
@@ -273,8 +280,8 @@ def options():
     """The options of the program and of the scripts."""
     texts = [file.read_text(encoding="utf-8") for file in crates.named("command_line").files("src", "specs")]
     scripts = (*TOP.glob("tools/*"), *TOP.glob("bench/*"), *TOP.glob("docs/check*"), *TOP.glob("docs/pictures/*.py"))
-    scripts += (*TOP.glob("examples/**/*"), *TOP.glob("python/pcm/*.py"))
-    texts += [it.read_text(encoding="utf-8") for it in scripts if it.is_file() and it.suffix in ("", ".py", ".sh")]
+    scripts += (*(it for it in TOP.glob("examples/**/*") if "out" not in it.parts), *TOP.glob("python/pcm/*.py"))
+    texts += [it.read_text(encoding="utf-8") for it in scripts if it.is_file() and it.suffix in ("", ".py", ".sh", ".hpp")]
     return {word for text in texts for word in re.findall(r'(?:--|")([a-z][a-z-]+)', text)}
 
 
@@ -462,33 +469,53 @@ def is_test(crate, name):
     return bool(re.search(rf"#\[test\]\s+(?:pub )?fn {name}\b|\bname: \"{name}\"", text_of(crate, "src")))
 
 
+def folders_of_body(crate, name):
+    return [it for it in (bodies.GATE, bodies.LATER) if (TOP / "crates" / crate / it / f"{name}.edit").is_file()]
+
+
+def wrong_bodies(cells):
+    """The wrong bodies of a row, each with its crate."""
+    home = re.search(r"`(\w*)", cells[0])
+    for crate, _, name in (span.partition(" ") for span in re.findall(r"`([^`]+)`", cells[1])):
+        yield (crate, name) if name else (home[1] if home else "", crate)
+
+
 def faults_of_row(cells):
     """What isn't there of a row of the table: its clauses, `crate NAME: CLAUSE`; wrong bodies, with their crate where it isn't that of the
     first clause; and tests, which stand in a crate of tests."""
-    clauses, bodies, tests = ([span.partition(" ")[::2] for span in re.findall(r"`([^`]+)`", cell)] for cell in cells)
+    clauses, tests = ([span.partition(" ")[::2] for span in re.findall(r"`([^`]+)`", cell)] for cell in (cells[0], cells[2]))
     for crate, rest in clauses:
         name, _, clause = rest.partition(": ")
         if crate not in crates.listed() or not (has_clause(crate, name, clause) if clause else defines(crate, name)):
             yield f"clause {crate} {rest}"
-    home = clauses[0][0] if clauses else ""
-    for crate, name in ((crate, name) if name else (home, crate) for crate, name in bodies):
-        if not (TOP / "crates" / crate / "must-fail" / f"{name}.edit").is_file():
+    for crate, name in wrong_bodies(cells):
+        if not folders_of_body(crate, name):
             yield f"wrong body {crate} {name}"
     for name in (name or crate for crate, name in tests):
         if not any(is_test(crate, name) for crate in crates.listed() if crate.endswith("_tests")):
             yield f"test {name}"
 
 
+def untold(text, rows):
+    """Crates of which the page says that tools/wrong alone tries their wrong bodies, and the gate does, or the other way round."""
+    said = re.search(r"`tools/wrong` alone tries those of ([\w, ]+?), whose", text)
+    told = set(re.split(r", | and ", said[1])) if said else set()
+    return sorted(told ^ {crate for cells in rows for crate, name in wrong_bodies(cells) if bodies.LATER in folders_of_body(crate, name)})
+
+
 def check_requirements():
     text = (TOP / "docs" / "VERIFYING.md").read_text(encoding="utf-8")
+    rows = []
     for row in re.findall(r"(?m)^\| (?!Requirement|-)(.*) \|$", text.partition("<!-- requirements -->")[2].partition("<!-- /requirements -->")[0]):
         requirement, *cells = row.split(" | ")
         if len(cells) != 3:
             yield f"docs/VERIFYING.md: {requirement}: {len(cells) + 1} cells"
             continue
+        rows.append(cells)
         found = list(faults_of_row(cells))
         yield from (f"docs/VERIFYING.md: {it} stands nowhere" for it in found)
         yield None
+    yield from (f"docs/VERIFYING.md: by what are the wrong bodies of {it} tried?" for it in untold(text, rows))
 
 
 # Promises, each a function and its clauses.

@@ -105,6 +105,12 @@ class Requirements(unittest.TestCase):
         found = list(checking.faults_of_row(("`start_gap Registers::place: nothing`", "`start_gap no_edit`", "`no_test`")))
         self.assertEqual(found, ["clause start_gap Registers::place: nothing", "wrong body start_gap no_edit", "test no_test"])
 
+    def test_who_tries_a_wrong_body_is_told(self):
+        rows = [("`start_gap Registers::place: apart`", "`place_one_off_behind_the_gap` `bank_core the-gap-never-moves`", "")]
+        said = "Of these `tools/wrong` alone tries those of {}, whose checks are dear."
+        self.assertEqual(checking.untold(said.format("bank_core"), rows), [])
+        self.assertEqual(checking.untold(said.format("bank_timing and start_gap"), rows), ["bank_core", "bank_timing", "start_gap"])
+
     def test_a_name_that_stays_stands_in_its_crate(self):
         self.assertEqual(list(checking.lost_names()), [])
         self.assertEqual(list(checking.lost_names("start_gap: Move Registers::place Registers::nothing")), ["docs/names: start_gap has no Registers::nothing"])
@@ -223,6 +229,10 @@ class Crates(unittest.TestCase):
                 (crate / "must-fail" / f"{name}.edit").write_text(f"file: {file}\nold: {old}\nnew: x\n")
             (crate / "wrong" / "late.edit").write_text("file: src/lib.rt\nold: a\nnew: b\nold: a\nnew: c\n")
             self.assertEqual(list(checking.misfits(crate)), ["must-fail/gone.edit", "must-fail/none.edit", "must-fail/two.edit", "wrong/late.edit"])
+            self.assertFalse(checking.is_single(crate))
+            for it in sorted((crate / "must-fail").iterdir())[1:]:
+                it.unlink()
+            self.assertTrue(checking.is_single(crate))
 
     def test_a_stale_list_is_named(self):
         with tempfile.TemporaryDirectory() as room:

@@ -1,11 +1,16 @@
-"""Where builds keep what they proved: outside every checkout, by a checksum of all that it was made of, so that a second clone, or a
-branch that comes back, finds it.
+"""Where the scripts keep what isn't the kit's to keep: outside every checkout, by a checksum of all that it was made of, so that a second
+clone, or a branch that comes back, finds it.
 
 The folder is leqallqu in XDG_CACHE_HOME (~/.cache unless it is given); where that can't be written, or lies in this checkout, where the
-gate refuses Rattle's files, leqallqu-UID in TMPDIR (/var/tmp). Each entry is a folder CRATE-CHECKSUM with a crate's library, or the
-program, and what its proof said. It is made in a folder beside them, which one build at a time holds, and comes to its place whole, by one rename.
-Each build that uses an entry notes that; of each crate the three that were used last stay, and all that were used within a day. So the
-folder doesn't grow without bound, and `tools/build --clean` empties it. The gate reads none of it."""
+gate refuses Rattle's files, leqallqu-UID in TMPDIR (/var/tmp). In it are
+
+    kept/CRATE-CHECKSUM     a program, or the library by which tools/times and tools/wrong check the crates above
+    lines/CRATE-CHECKSUM    the line with which the crate's proof ended
+    rooms/                  the copies in which the kit proves, and what tools/times keeps
+    kit/                    another name of the kit, where what it proves can't be kept beside it
+
+An entry comes to its place whole, by one rename. Of each crate the three that were used last stay, and all that were used within a day;
+`tools/build --clean` removes them. The gate reads none of it."""
 import contextlib
 import fcntl
 import functools
@@ -15,6 +20,7 @@ import pathlib
 import shutil
 import stat
 import sys
+import tempfile
 import time
 
 import crates
@@ -30,7 +36,7 @@ def _usual():
     return (pathlib.Path(named) if os.path.isabs(named) else pathlib.Path.home() / ".cache") / "leqallqu"
 
 
-def _is_mine(folder):
+def is_mine(folder):
     """Whether it is a folder of this user's own in which files can be made."""
     found = folder.lstat()
     return stat.S_ISDIR(found.st_mode) and found.st_uid == os.getuid() and os.access(folder, os.W_OK | os.X_OK)
@@ -48,9 +54,9 @@ def cache():
     folder = pathlib.Path(os.environ.get("TMPDIR") or "/var/tmp") / f"leqallqu-{os.getuid()}"
     with contextlib.suppress(OSError):
         folder.mkdir(mode=0o700, exist_ok=True)
-        if _is_mine(folder) and TOP not in folder.resolve().parents:
+        if is_mine(folder) and TOP not in folder.resolve().parents:
             return folder
-    sys.exit(f"pcm: what is proved can be kept neither in ~/.cache nor in {folder}: name a folder outside the checkout by XDG_CACHE_HOME")
+    sys.exit(f"pcm: what is built can be kept neither in ~/.cache nor in {folder}: name a folder outside the checkout by XDG_CACHE_HOME")
 
 
 @contextlib.contextmanager
@@ -79,13 +85,13 @@ def clean():
     os.close(held)
 
 
-def library(crate, stamp):
-    """Where a crate's library is, or is to be, by the checksum of what it is made of."""
-    return entry(crate, stamp) / f"{crate}.rlib"
-
-
 def entry(crate, stamp):
+    """Where a crate's library or program is, or is to be, by the checksum of what it is made of."""
     return cache() / "kept" / f"{crate}-{stamp[:32]}"
+
+
+def line_file(crate, stamp):
+    return cache() / "lines" / f"{crate}-{stamp[:32]}"
 
 
 def is_kept(crate, stamp):
@@ -96,95 +102,47 @@ def is_kept(crate, stamp):
     return False
 
 
-class Making:
-    """The folder in which an entry is being made, held against other builds."""
-
-    def __init__(self, crate, stamp):
-        self.entry, self.room = entry(crate, stamp), cache() / "making" / f"{crate}-{stamp[:32]}"
-        self.held = None
-
-    def begin(self):
-        """Takes the folder, empty; False where another build has it."""
-        self.room.mkdir(parents=True, exist_ok=True)
-        with contextlib.suppress(FileNotFoundError):
-            held = os.open(self.room, os.O_RDONLY)
-            try:
-                fcntl.flock(held, fcntl.LOCK_EX | fcntl.LOCK_NB)
-            except BlockingIOError:
-                os.close(held)
-                return False
-            except OSError:
-                # (some file systems have no locks)
-                pass
-            if not _names(self.room, held):
-                os.close(held)
-                return False
-            self.held = held
-            for it in self.room.iterdir():
-                shutil.rmtree(it) if it.is_dir() else it.unlink()
-            return True
-        return False
-
-    def keep(self):
-        """Brings what was made to its place, unless one stands there."""
-        self.entry.parent.mkdir(exist_ok=True)
-        try:
-            os.rename(self.room, self.entry)
-        except OSError:
-            shutil.rmtree(self.room, ignore_errors=True)
-        os.close(self.held)
-        self.held = None
-
-    def end(self):
-        """Gives up what wasn't kept, unless that is done."""
-        if self.held is not None:
-            shutil.rmtree(self.room, ignore_errors=True)
-            os.close(self.held)
-            self.held = None
+def keep(crate, stamp, made):
+    """Brings a program or a library's folder to its place, unless one stands there."""
+    to = entry(crate, stamp)
+    to.parent.mkdir(exist_ok=True)
+    with tempfile.TemporaryDirectory(dir=to.parent, prefix=".new-", ignore_cleanup_errors=True) as room:
+        (pathlib.Path(room) / "entry").mkdir()
+        (shutil.move if made.is_dir() else shutil.copy)(made, pathlib.Path(room) / "entry" / made.name)
+        with contextlib.suppress(OSError):
+            (pathlib.Path(room) / "entry").rename(to)
 
 
-def _names(folder, held):
-    """Whether a folder's name still leads to the folder that was opened."""
-    try:
-        return os.path.samestat(os.stat(folder), os.fstat(held))
-    except FileNotFoundError:
-        return False
+def note_line(crate, stamp, line):
+    """Keeps the line with which a crate's proof ended."""
+    file = line_file(crate, stamp)
+    file.parent.mkdir(exist_ok=True)
+    new = file.with_name(f".{file.name}.{os.getpid()}")
+    new.write_text(f"{line}\n", encoding="utf-8")
+    new.replace(file)
 
 
-def seconds_file(crate):
-    """Where the processor seconds of a crate's last proof are noted."""
-    folder = cache() / "seconds"
-    folder.mkdir(exist_ok=True)
-    return folder / crate
+def line_of(crate, stamp):
+    """The same, or None where no run noted it."""
+    with contextlib.suppress(FileNotFoundError):
+        file = line_file(crate, stamp)
+        os.utime(file)
+        return file.read_text(encoding="utf-8").rstrip("\n")
+    return None
 
 
 def shrink():
     """Removes entries that were used long ago, where a crate has many."""
     found = {}
-    for it in (cache() / "kept").glob("*-*"):
+    for it in (*(cache() / "kept").glob("[!.]*-*"), *(cache() / "lines").glob("[!.]*-*")):
         with contextlib.suppress(FileNotFoundError):
-            found.setdefault(it.name.rpartition("-")[0], []).append((it.stat().st_mtime, it))
+            found.setdefault((it.parent, it.name.rpartition("-")[0]), []).append((it.stat().st_mtime, it))
     for entries in found.values():
         for used, it in sorted(entries, reverse=True)[STAY:]:
             if used < time.time() - FRESH:
-                shutil.rmtree(it, ignore_errors=True)
+                shutil.rmtree(it, ignore_errors=True) if it.is_dir() else it.unlink(missing_ok=True)
 
 
 def room(name):
     """A folder of this checkout's own, as a name to be made and removed."""
     return cache() / "rooms" / f"{hashlib.sha256(str(TOP).encode()).hexdigest()[:16]}-{name}"
-
-
-def clear_old():
-    """Removes what builds of earlier versions kept in the checkout, where the gate refuses it."""
-    old = TOP / "out"
-    if not old.is_dir():
-        return
-    for name in ("rlibs", "rooms", "times"):
-        shutil.rmtree(old / name, ignore_errors=True)
-    try:
-        old.rmdir()
-        print("pcm: removed out/, in which earlier builds kept their libraries", file=sys.stderr)
-    except OSError:
-        print("pcm: out/ isn't empty: remove .rt and .antt files there, which the gate refuses", file=sys.stderr)
-

@@ -1,28 +1,31 @@
-"""Proves the crates that a program stands on, those that don't stand on each other side by side, and tells how far it is.
+"""Has the kit prove crates, tells how far it is, and hands on what was made.
 
-Used by tools/build, tools/libraries, tools/times and tools/wrong. What was proved is kept by tools/keeping.py, and with it the processor seconds that
-each proof took, by which the next build is ordered."""
+Used by tools/build, tools/libraries, tools/times, tools/wrong and tools/dist. It is the kit's own gate that proves: a plain `rt ci`, over a
+copy that has the crates and all below them alone, without their wrong bodies. So the kit keeps what passes by the checksums of all that it
+read, and finds it again in a later build, in another clone, and in the gate."""
 import contextlib
 import fcntl
 import functools
-import graphlib
 import hashlib
 import os
 import pathlib
+import re
 import shutil
 import signal
 import subprocess
 import sys
 import time
 
+import bodies
 import crates
 import keeping
 
 TOP = crates.TOP
-PROCESSORS = int(os.environ.get("RT_JOBS") or len(os.sched_getaffinity(0)))
-# As how many processors all of them are for one crate, and how many chains of crates get them all.
-ALL = 3.5
-CHAINS = 2
+# What a proof may take of the memory, in bytes.
+EACH = 2_500_000_000
+# What `rt ci` says of a crate.
+TOLD = re.compile(r"rt: (\w+)(?:(?P<kept> is kept: )|(?P<proved> proved$)|(?P<failed> NOT PROVED$)|(?P<waits>: another run .* is proving the same))")
+LEFT_OUT = ("out", "build.log", bodies.GATE, bodies.LATER)
 
 
 @functools.cache
@@ -32,174 +35,176 @@ def kit_folder():
     return pathlib.Path(subprocess.run(["rt", "doc"], stdout=subprocess.PIPE, text=True, check=True).stdout.strip()).parent
 
 
-def command(verb, crate, jobs, *more):
-    """The words of a `rattle build` or `rattle check` of a crate, over the libraries that are kept."""
+def kit_command():
+    """The kit's `rt`, which keeps what passes beside the kit's folder; where that can't be written, the same kit by another name, in the
+    cache."""
+    kit = kit_folder()
+    beside = kit.parent / "rattle-kept"
+    if keeping.is_mine(beside) if beside.exists() else os.access(kit.parent, os.W_OK):
+        return "rt"
+    named = keeping.cache() / "kit" / hashlib.sha256(f"{kit} {(kit / 'KIT-ID').read_text()}".encode()).hexdigest()[:16] / "kit"
+    if not named.is_dir():
+        new = named.parent.with_name(f"new-{os.getpid()}")
+        (new / "kit" / "bin").mkdir(parents=True)
+        for it in kit.iterdir():
+            if it.name != "bin":
+                (new / "kit" / it.name).symlink_to(it)
+        for it in (kit / "bin").iterdir():
+            # (its scripts look for the kit from where they stand)
+            shutil.copy2(it, new / "kit" / "bin") if it.read_bytes()[:2] == b"#!" or it.suffix == ".py" else (new / "kit" / "bin" / it.name).symlink_to(it)
+        with contextlib.suppress(OSError):
+            new.rename(named.parent)
+    return str(named / "bin" / "rt")
+
+
+def number_in(file):
+    with contextlib.suppress(OSError, ValueError):
+        return int(pathlib.Path(file).read_text())
+    return None
+
+
+def jobs():
+    """How many proofs run side by side: one for each processor, as many as memory holds; RT_JOBS where that is given."""
+    if os.environ.get("RT_JOBS", "").isdigit():
+        return int(os.environ["RT_JOBS"])
+    free = [1024 * int(re.search(r"MemAvailable:\s*(\d+)", pathlib.Path("/proc/meminfo").read_text())[1])]
+    for most, used in (("memory.max", "memory.current"), ("memory/memory.limit_in_bytes", "memory/memory.usage_in_bytes")):
+        most, used = number_in(f"/sys/fs/cgroup/{most}"), number_in(f"/sys/fs/cgroup/{used}")
+        free += [most - used] if most and used else []
+    return max(1, min(len(os.sched_getaffinity(0)), min(free) // EACH))
+
+
+def command(verb, crate, *more):
+    """The words of a `rattle check` or `rattle build` of a crate by one process, over the libraries that are kept."""
     kit, libraries = kit_folder(), crates.named(crate).libraries
-    own = [f"{it}={keeping.library(it, stamp(it))}" for it in crates.below(crate)]
+    own = [f"{it}={keeping.entry(it, stamp(it))}/{it}.rlib" for it in crates.below(crate)]
     folders = [kit / "rlibs", *(keeping.entry(it, stamp(it)) for it in sorted(crates.needed(crate) - {crate}))]
     kits = [f"{it}={kit}/rlibs/{it}.rlib" for it in ("std", *libraries) if it not in crates.listed()]
-    words = [kit / "bin" / "rattle", verb, "--crate-name", crate, crates.named(crate).root, "--links", f"{crate}=", "--jobs", jobs]
+    words = [kit / "bin" / "rattle", verb, "--crate-name", crate, crates.named(crate).root, "--links", f"{crate}=", "--jobs", 1]
     words += [word for it in (*kits, *own) for word in ("--extern", it)]
     words += [word for it in folders for word in ("-L", f"dependency={it}")]
     words += ["--antt-project", kit / "rattle" / "logic" / "antt-project.json", "--logic-built", kit / "logic_built"]
     return list(map(str, (*words, *more)))
 
 
-def sum_of(crate):
-    """A checksum of all that a crate is made of: the kit, the crate's text, and what stands below."""
+def sum_of(crate, below):
+    """A checksum of all that a crate is made of: the kit, the crate's text, and what stands below, of which `below` answers the sum."""
     sum_ = hashlib.sha256((kit_folder() / "KIT-ID").read_bytes())
     for file in crates.named(crate).files():
         sum_.update(f"{file.relative_to(TOP)} {file.stat().st_size}\n".encode() + file.read_bytes())
-    sum_.update("".join(f"{it} {stamp(it)}\n" for it in crates.below(crate)).encode())
+    sum_.update("".join(f"{it} {below(it)}\n" for it in crates.below(crate)).encode())
     return sum_.hexdigest()
 
 
 @functools.cache
 def stamp(crate):
-    """The same, as it was when this build first asked for it."""
-    return sum_of(crate)
+    """The same, as it was when this script first asked for it."""
+    return sum_of(crate, stamp)
 
 
-def stop_on_change(crate):
-    """Ends the build where a crate's text isn't what it was as its proof began: nobody knows what was proved."""
-    if sum_of(crate) != stamp(crate):
-        sys.exit(f"pcm: the text of {crate} changed while it was proved: build again")
+def stop_on_change(names):
+    """Ends the script where a text isn't what it was as it was copied: what was made is of no text."""
+    for it in sorted(names):
+        if sum_of(it, stamp) != stamp(it):
+            sys.exit(f"pcm: the text of {it} changed while it was proved: build again")
 
 
-@functools.cache
-def seconds(crate):
-    """The processor seconds of a crate's proof: those of the last one, or else a guess by the size of its text."""
-    with contextlib.suppress(OSError, ValueError):
-        return float(keeping.seconds_file(crate).read_text())
-    code, proofs = (sum(file.stat().st_size for file in crates.named(crate).files(part)) for part in ("src", "proofs"))
-    return 10 + code / 400 + proofs / 10_000
+class Lines:
+    """Reads what `rt ci` says, and notes the line with which each proof ended, which the kit doesn't keep; where nobody noted that of a crate
+    that it has kept, the kit's words for this."""
+
+    def __init__(self):
+        self.stamps = {it: stamp(it) for it in crates.listed()}
+        self.last = None
+
+    def read(self, line):
+        """What a line says of a crate, if it does: the crate, and `kept`, `proved`, `failed` or `waits`."""
+        if line.startswith(("== ", "logic=")):
+            self.last = line.rstrip("\n") if line[0] == "l" else None
+        told = TOLD.match(line)
+        if told and told[1] in self.stamps:
+            crate, stamp_ = told[1], self.stamps[told[1]]
+            if told.lastgroup == "proved" and self.last:
+                keeping.note_line(crate, stamp_, self.last)
+            elif told.lastgroup == "kept" and not keeping.line_of(crate, stamp_):
+                keeping.note_line(crate, stamp_, line.rstrip("\n").removeprefix(f"rt: {crate} "))
+        return told and (told[1], told.lastgroup)
 
 
-class Order:
-    """Which crates below a program are proved first: those behind which most seconds wait, and those of the longest chains by all
-    processors."""
+class Proofs:
+    """A run of the kit's gate over a copy of some crates and all below them. It is a context, which ends all that it started."""
 
-    def __init__(self, program):
-        self.needed = crates.needed(program)
-        self.wide = set()
-        for _ in range(CHAINS):
-            self.wide |= self.longest_chain(program)
+    def __init__(self, names):
+        self.names, self.needed = names, sorted(frozenset().union(*map(crates.needed, names)))
+        self.log = crates.named(names[0]).folder / "build.log"
+        self.room, self.process, self.lines = keeping.room("copy"), None, Lines()
+        self.done, self.begun = 0, time.monotonic()
 
-    def own_seconds(self, crate):
-        return seconds(crate) / (ALL if crate in self.wide else 1)
+    def __enter__(self):
+        return self
 
-    def longest_chain(self, program):
-        chains = {}
-        for crate in graphlib.TopologicalSorter({it: crates.below(it) for it in self.needed}).static_order():
-            spent, chain = max((chains[it] for it in crates.below(crate)), default=(0, ()))
-            chains[crate] = spent + self.own_seconds(crate), (*chain, crate)
-        return set(chains[program][1])
+    def __exit__(self, *_):
+        if self.process and self.process.poll() is None:
+            # (what rt started ends with it)
+            os.killpg(self.process.pid, signal.SIGKILL)
+            self.process.wait()
+        shutil.rmtree(self.room, ignore_errors=True)
 
-    @functools.cache
-    def seconds_behind(self, crate):
-        """How long the crates that wait for each other take until the program can be made, from this one on."""
-        above = [it for it in self.needed if crate in crates.below(it)]
-        return self.own_seconds(crate) + max(map(self.seconds_behind, above), default=0)
+    def copy(self):
+        shutil.rmtree(self.room, ignore_errors=True)
+        # (it is the top of a repository)
+        (self.room / ".git").mkdir(parents=True)
+        lines = (TOP / "crates.txt").read_text(encoding="utf-8").splitlines()
+        own = [it for it in lines if not it.startswith("#") and it.partition(":")[0].strip() in self.needed]
+        (self.room / "crates.txt").write_text("".join(f"{it}\n" for it in own), encoding="utf-8")
+        if (TOP / "HANDLES").is_file():
+            shutil.copy(TOP / "HANDLES", self.room)
+        for it in self.needed:
+            folder = str(crates.named(it).folder)
+            shutil.copytree(folder, self.room / "crates" / it, ignore=lambda at, _, folder=folder: LEFT_OUT if at == folder else ())
+        stop_on_change(self.needed)
 
-
-class Build:
-    """The crates below another, a program mostly, what is proved of them, and what is being proved; of a library it may be one of them."""
-
-    def __init__(self, program, itself=False):
-        self.program, self.order, below = program, Order(program), crates.needed(program) - (set() if itself else {program})
-        self.sorter = graphlib.TopologicalSorter({it: crates.below(it) for it in below})
-        self.sorter.prepare()
-        self.waiting, self.running, self.making, self.elsewhere, self.spent = [], {}, {}, set(), {}
-        self.whole, self.proved, self.begun = len(below), 0, time.monotonic()
-        self.log = crates.named(program).folder / "build.log"
-        self.log.write_text("")
-
-    def begin(self, crate):
-        """Starts the proof of a crate, unless its library is kept; False where another build proves it just now."""
-        if keeping.is_kept(crate, stamp(crate)):
-            self.pass_on(crate)
-            return True
-        making = keeping.Making(crate, stamp(crate))
-        if not making.begin():
-            if crate not in self.elsewhere:
-                say(f"another build proves {crate} just now: waiting for it")
-            self.elsewhere.add(crate)
-            return False
-        self.making[crate] = making
-        if keeping.is_kept(crate, stamp(crate)):
-            self.making.pop(crate).end()
-            self.pass_on(crate)
-            return True
-        first, jobs = self.share(crate)
-        words = [*first, *command("build", crate, jobs, "--statements", "-o", making.room / f"{crate}.rlib")]
-        self.start(crate, words, crates.named(crate).folder, making.room / "said")
-        return True
-
-    def share(self, crate):
-        """By which command a crate gets its part of the processors, and as how many."""
-        return ((), PROCESSORS) if crate in self.order.wide else (("nice",), 1)
-
-    def start(self, crate, words, folder, said):
-        with open(said, "w", encoding="utf-8") as output:
-            # (a group of its own, but no session: by those a processor may be shared whatever their priorities)
-            how = {"cwd": folder, "stdin": subprocess.DEVNULL, "stdout": output, "stderr": output, "preexec_fn": os.setpgrp}
-            self.running[subprocess.Popen(words, **how)] = crate, said
-
-    def has_ended(self, proof):
-        """Whether a proof has ended; then its processor time, with that of all that it started, is added up."""
-        process, status, spent = os.wait4(proof.pid, os.WNOHANG)
-        if process:
-            proof.returncode = os.waitstatus_to_exitcode(status)
-            self.spent[self.running[proof][0]] = spent.ru_utime + spent.ru_stime
-        return bool(process)
-
-    def end(self, proof):
-        crate, said = self.running.pop(proof)
-        with open(self.log, "a", encoding="utf-8") as log:
-            log.write(f"== {crate}\n{said.read_text(errors='replace')}")
-        if proof.returncode != 0:
-            sys.exit(f"pcm: the proof of {crate} failed; {self.log.relative_to(TOP)} says why")
-        self.keep(crate)
-        keeping.seconds_file(crate).write_text(f"{self.spent[crate]:.1f}\n")
-        self.pass_on(crate)
-        minutes, seconds_ = divmod(int(time.monotonic() - self.begun), 60)
-        done = f"{self.proved} of {self.whole} crates in {minutes} min {seconds_} s"
-        say(f"proved {done}: {crate}, {self.spent[crate]:.0f} s of processor time")
-
-    def keep(self, crate):
-        """Keeps a library that was proved."""
-        stop_on_change(crate)
-        self.making.pop(crate).keep()
-
-    def pass_on(self, crate):
-        """Lets those begin that waited for a crate alone."""
-        self.proved += 1
-        self.sorter.done(crate)
-
-    def may_begin(self, crate):
-        # (what is kept takes no processor, so it waits for none)
-        return keeping.is_kept(crate, stamp(crate)) or crate in self.order.wide or len(self.running) < PROCESSORS
+    def made(self, crate):
+        """What was made of a crate: a program's file, or a library's folder."""
+        out = self.room / "crates" / crate / "out"
+        return out / crate if crates.named(crate).root == "src/main.rt" else out / "rlib" / f"{crate}.rlib"
 
     def prove(self):
-        while self.sorter.is_active():
-            self.waiting += self.sorter.get_ready()
-            self.waiting.sort(key=self.order.seconds_behind, reverse=True)
-            for crate in list(self.waiting):
-                if self.may_begin(crate) and self.begin(crate):
-                    self.waiting.remove(crate)
-            for proof in [it for it in self.running if self.has_ended(it)]:
-                self.end(proof)
-            if self.running or self.waiting:
-                time.sleep(0.2)
+        self.copy()
+        around = {**os.environ, "RT_JOBS": str(jobs())}
+        how = {"cwd": self.room, "env": around, "stdin": subprocess.DEVNULL, "stdout": subprocess.PIPE, "stderr": subprocess.STDOUT}
+        self.process = subprocess.Popen([kit_command(), "ci"], **how, text=True, errors="replace", preexec_fn=os.setpgrp)
+        with open(self.log, "w", encoding="utf-8") as log:
+            for line in self.process.stdout:
+                log.write(line)
+                log.flush()
+                self.tell(*(self.lines.read(line) or (None, None)))
+        if self.process.wait() != 0:
+            sys.exit(f"pcm: the kit refuses {' '.join(self.names)}; {self.log.relative_to(TOP)} says why")
+        stop_on_change(self.needed)
 
-    def stop(self):
-        """Ends what is still running, with all that it started, and gives up what it made."""
-        for proof in self.running:
-            with contextlib.suppress(ProcessLookupError):
-                os.killpg(proof.pid, signal.SIGKILL)
-            proof.wait()
-        for making in self.making.values():
-            making.end()
+    def tell(self, crate, what):
+        if what in ("kept", "proved"):
+            self.done += 1
+        if what == "proved":
+            minutes, seconds = divmod(int(time.monotonic() - self.begun), 60)
+            say(f"proved {self.done} of {len(self.needed)} crates in {minutes} min {seconds} s: {crate}")
+        elif what == "waits":
+            say(f"another build proves {crate} just now: waiting for it")
+        elif what == "failed":
+            sys.exit(f"pcm: the proof of {crate} failed; {self.log.relative_to(TOP)} says why")
+
+
+def keep_libraries(names):
+    """Proves what lacks of these libraries, and of those below them, and keeps them for checks of crates above."""
+    needed = frozenset().union(*map(crates.needed, names)) if names else ()
+    if all(keeping.is_kept(it, stamp(it)) for it in needed):
+        return
+    with alone(), Proofs(names) as proofs:
+        proofs.prove()
+        for it in proofs.needed:
+            if proofs.made(it).exists():
+                keeping.keep(it, stamp(it), proofs.made(it))
 
 
 def say(text):

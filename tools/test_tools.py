@@ -23,35 +23,68 @@ import pages
 import refusing
 import staging
 
-# A compiler that notes for which crate it was called, waits as long as the file `slow` says, and makes what a compiler makes.
-COMPILER = """#!/bin/sh
-kit={kit}
-name= out= root=
+# A check that refuses the word 'wrong'.
+RATTLE = """#!/bin/sh
 while [ $# -gt 0 ]; do
-    case $1 in
-        --crate-name) name=$2 root=$3; shift 2 ;;
-        -o) out=$2; shift ;;
-    esac
+    if [ "$1" = --crate-name ]; then name=$2 root=$3; fi
     shift
 done
-echo "$name" >>"$kit/called"
-if [ -f "$kit/slow" ]; then sleep "$(cat "$kit/slow")"; fi
 if grep -q wrong "$root"; then
     echo "$root:1:1: error: no proof"
     echo "logic=not-proved functions=1"
     exit 1
 fi
-case $out in
-    *.rlib) mkdir -p "$out/interface/lang/src" && cp "$root" "$out/interface/lang/src/lib.rt" ;;
-    *) cp "$root" "$out" ;;
-esac
 echo "logic=proved functions=1"
 """
-# A linker that makes a program which tells its words, and refuses those that pcm_cli refuses here.
-LINKER = """#!/bin/sh
-while [ $# -gt 0 ]; do if [ "$1" = -o ]; then out=$2; fi; shift; done
-cat >"$out" <<'END'
-#!/bin/sh
+# A gate that notes for which crate it was asked and with how many jobs, waits as long as the file `slow` says, keeps beside the kit what it
+# made, by the text of a crate and of those below it, and refuses wrong bodies, and texts with the word 'wrong'.
+RT = '''#!/usr/bin/env python3
+import fcntl, hashlib, os, pathlib, shutil, sys, time
+noted, kit = pathlib.Path("{kit}"), pathlib.Path(__file__).resolve().parent.parent
+if sys.argv[1:] != ["ci"]:
+    print("a kit for tests" if sys.argv[1:] == ["version"] else f"{{kit}}/START-HERE.md")
+    sys.exit()
+store, sums = kit.parent / "rattle-kept", {{}}
+store.mkdir(exist_ok=True)
+(noted / "jobs").write_text(os.environ["RT_JOBS"])
+for name, _, below in (line.partition(":") for line in pathlib.Path("crates.txt").read_text().splitlines()):
+    folder = pathlib.Path("crates", name)
+    is_program = (folder / "src" / "main.rt").exists()
+    texts = [it.read_text() for part in ("src", "specs", "proofs") for it in sorted((folder / part).rglob("*")) if it.is_file()]
+    sums[name] = hashlib.sha256(repr((texts, [sums[it] for it in below.split()])).encode()).hexdigest()
+    entry = store / f"proof-{{name}}-{{sums[name]}}"
+    with open(store / f"lock-{{sums[name]}}", "w") as lock:
+        try:
+            fcntl.flock(lock, fcntl.LOCK_EX | fcntl.LOCK_NB)
+        except BlockingIOError:
+            print(f"rt: {{name}}: another run on this machine is proving the same; waiting for it", flush=True)
+            fcntl.flock(lock, fcntl.LOCK_EX)
+        if entry.exists():
+            print(f"rt: {{name}} is kept: an earlier run on this machine proved the same files over the same libraries", flush=True)
+        else:
+            with open(noted / "called", "a") as called:
+                called.write(f"{{name}}\\n")
+            if (noted / "slow").exists():
+                time.sleep(float((noted / "slow").read_text()))
+            print(f"== {{name}}", flush=True)
+            if "wrong" in "".join(texts) or (folder / "must-fail").exists() or (folder / "wrong").exists():
+                print(f"src/lib.rt:1:1: error: no proof\\nlogic=not-proved functions=1\\nrt: {{name}} NOT PROVED", flush=True)
+                sys.exit(1)
+            entry.mkdir()
+            if is_program:
+                (entry / name).write_text((noted / "program").read_text())
+                (entry / name).chmod(0o755)
+            else:
+                (entry / f"{{name}}.rlib").mkdir()
+                (entry / f"{{name}}.rlib" / "format").write_text(sums[name])
+            print(f"logic=proved functions=1\\nrt: {{name}} proved", flush=True)
+    shutil.copytree(entry, folder / "out" / ("" if is_program else "rlib"))
+if (noted / "refuses").exists():
+    print("rt: FAILED: pcm_cli (run)")
+    sys.exit(1)
+'''
+# A program that tells its words, and refuses those that pcm_cli refuses here.
+PROGRAM = """#!/bin/sh
 case "$(basename "$0") $*" in
     *-psi*0*) echo "usage: pcm run|gen|map|moves|show|check [options]" >&2; exit 2 ;;
     pcm_explain*none*) echo "usage: pcm explain [options]" >&2; exit 2 ;;
@@ -59,8 +92,14 @@ case "$(basename "$0") $*" in
     *faulty*) echo "trace row 2: order" >&2; exit 3 ;;
 esac
 echo "$(basename "$0")" "$@"
-END
-chmod +x "$out"
+"""
+# What tools/libraries asks of the kit.
+RTLIB = """
+import os
+class Crate:
+    def __init__(self, name): self.name = name
+    def stamp(self): return f"stamp-of-{self.name}"
+def crates_below(top): return [Crate(it) for it in os.listdir(f"{top}/crates")]
 """
 CRATES = "# 1. PARTS\nfirst:\nsecond: first\n# 2. PROGRAMS\npcm_cli: second\npcm_stream: first\npcm_explain: second\npcm_view: second\n"
 PROGRAMS = ("pcm_cli", "pcm_stream", "pcm_explain", "pcm_view")
@@ -77,12 +116,13 @@ class Room:
 
     def __init__(self):
         self.folder = pathlib.Path(tempfile.mkdtemp(prefix="pcm tools "))
-        self.kit, self.cache = self.folder / "kit", self.folder / "cache"
+        self.kit, self.cache, self.store = self.folder / "kit", self.folder / "cache", self.folder / "rattle-kept"
         (self.kit / "bin").mkdir(parents=True)
         (self.kit / "KIT-ID").write_text("a kit for tests\n")
-        self.script(self.kit / "bin" / "rattle", COMPILER.format(kit=f"'{self.kit}'"))
-        self.script(self.kit / "bin" / "rattle-link", LINKER)
-        self.script(self.kit / "bin" / "rt", f"#!/bin/sh\necho '{self.kit}/START-HERE.md'\n")
+        self.script(self.kit / "bin" / "rattle", RATTLE)
+        self.script(self.kit / "bin" / "rt", RT.format(kit=self.kit))
+        (self.kit / "bin" / "rtlib.py").write_text(RTLIB)
+        (self.kit / "program").write_text(PROGRAM)
         self.top = self.repository("a clone")
         self.around = {**os.environ, "XDG_CACHE_HOME": str(self.cache), "PATH": f"{self.kit}/bin:{os.environ['PATH']}"}
         for name in ("PCM_EXPLAIN", "PCM_PROGRESS", "RT_JOBS"):
@@ -96,7 +136,7 @@ class Room:
     def repository(self, name):
         top = self.folder / name
         for folder in ("tools", "python/pcm"):
-            shutil.copytree(TOP / folder, top / folder, ignore=shutil.ignore_patterns("__pycache__"))
+            shutil.copytree(TOP / folder, top / folder, ignore=shutil.ignore_patterns("__pycache__", "tried.txt"))
         for file in ("pcm", "VERSION", "README.md", "docs/USING.md"):
             (top / file).parent.mkdir(exist_ok=True)
             shutil.copy(TOP / file, top / file)
@@ -116,7 +156,7 @@ class Room:
         return subprocess.Popen([(top or self.top) / words[0], *words[1:]], **how)
 
     def called(self):
-        """For which crates the compiler was called since this was asked last."""
+        """For which crates the gate had no proof since this was asked last."""
         file = self.kit / "called"
         names = file.read_text().split() if file.exists() else []
         file.unlink(missing_ok=True)
@@ -153,15 +193,30 @@ class Builds(unittest.TestCase):
         (self.room.top / path).write_text(text)
 
     def test_one_call_builds_several_programs_and_leaves_nothing_that_the_gate_refuses(self):
-        (self.room.top / "out" / "rlibs").mkdir(parents=True)
-        (self.room.top / "out" / "rlibs" / "old.rt").write_text("")
-        self.assertEqual(self.room.refused(), ["out/rlibs/old.rt"])
         done = self.build("pcm_cli", "pcm_stream")
         self.assertEqual(self.room.called(), ["first", "pcm_cli", "pcm_stream", "second"])
         self.assertEqual(self.room.refused(), [])
-        self.assertIn("removed out/", done.stderr)
+        self.assertRegex(done.stderr, r"\Apcm: building pcm_cli pcm_stream, .*\npcm: proved 1 of 4 crates in 0 min \d s: first\n")
         self.build("pcm_cli", "pcm_stream")
         self.assertEqual(self.room.called(), [])
+
+    def test_the_gate_of_the_kit_finds_what_a_build_proved(self):
+        self.build("pcm_cli")
+        self.room.called()
+        (self.room.folder / "cache" / "leqallqu").rename(self.room.folder / "gone")
+        shutil.copy(self.room.top / "crates.txt", self.room.folder / "crates.txt")
+        own = "".join(line for line in (self.room.folder / "crates.txt").read_text().splitlines(True) if not line.startswith("#"))
+        (self.room.top / "crates.txt").write_text(own)
+        done = subprocess.run(["rt", "ci"], cwd=self.room.top, env={**self.room.around, "RT_JOBS": "1"}, capture_output=True, text=True)
+        self.assertEqual([it for it in done.stdout.splitlines() if "pcm_cli" in it or "second" in it], [
+            f"rt: {it} is kept: an earlier run on this machine proved the same files over the same libraries" for it in ("second", "pcm_cli")
+        ])
+
+    def test_proofs_take_as_many_processors_as_there_are_and_memory_holds(self):
+        self.build("pcm_stream", RT_JOBS="3")
+        self.assertEqual((self.room.kit / "jobs").read_text(), "3")
+        self.assertEqual(self.build("--jobs", RT_JOBS="7").stdout, "7\n")
+        self.assertIn(int(self.build("--jobs").stdout), range(1, len(os.sched_getaffinity(0)) + 1))
 
     def test_a_library_is_proved_with_those_below_it_and_kept(self):
         self.build("second")
@@ -170,6 +225,37 @@ class Builds(unittest.TestCase):
         self.assertEqual(self.room.called(), [])
         self.build("pcm_cli")
         self.assertEqual(self.room.called(), ["pcm_cli"])
+
+    def test_libraries_are_put_where_rt_looks_for_them(self):
+        self.assertEqual(self.room.run("tools/libraries").returncode, 0)
+        self.assertEqual(self.room.called(), ["first", "second"])
+        for it in ("first", "second"):
+            out = self.room.top / "crates" / it / "out" / "rlib"
+            self.assertEqual(((out / "stamp").read_text(), [it.name for it in (out / f"{it}.rlib").iterdir()]), (f"stamp-of-{it}", ["format"]))
+        self.assertFalse((self.room.top / "crates" / "pcm_cli" / "out").exists())
+
+    def test_what_proofs_said_is_noted_and_else_what_the_kit_says_of_them(self):
+        lines = lambda: [it.read_text() for it in sorted((self.room.cache / "leqallqu" / "lines").iterdir())]
+        self.build("pcm_stream")
+        said = lines()
+        self.assertEqual(set(said), {"logic=proved functions=1\n"})
+        self.room.called()
+        shutil.rmtree(self.room.cache)
+        self.build("--kept", "pcm_stream")
+        self.assertEqual(self.room.called(), [])
+        self.assertEqual(lines(), ["is kept: an earlier run on this machine proved the same files over the same libraries\n"] * len(said))
+
+    def test_the_gate_runs_the_tests_behind_the_proofs_and_not_where_these_fail(self):
+        (self.room.top / ".ci").mkdir()
+        shutil.copy(TOP / ".ci" / "run", self.room.top / ".ci")
+        self.room.script(self.room.top / "tools" / "test", "#!/bin/sh\necho tests\nexit 3\n")
+        (self.room.top / "crates.txt").write_text("first:\npcm_stream: first\n")
+        done = self.room.run(".ci/run", CI="", RT_JOBS="5")
+        self.assertEqual((done.returncode, done.stdout.splitlines()[-2:]), (3, ["rt: pcm_stream proved", "tests"]), done.stderr)
+        self.assertEqual((self.room.kit / "jobs").read_text(), "5")
+        (self.room.top / "crates" / "first" / "src" / "lib.rt").write_text("wrong\n")
+        done = self.room.run(".ci/run", CI="")
+        self.assertEqual((done.returncode, done.stdout.splitlines()[-1]), (1, "rt: first NOT PROVED"), done.stderr)
 
     def test_a_second_clone_builds_at_once(self):
         self.build("pcm_cli")
@@ -215,6 +301,7 @@ class Builds(unittest.TestCase):
         made = (self.room.top / "crates/pcm_cli/out/pcm_cli").read_bytes()
         shutil.rmtree(self.room.top / "crates/pcm_cli/out")
         shutil.rmtree(self.room.cache)
+        shutil.rmtree(self.room.store)
         self.room.called()
         (self.room.top / "crates/pcm_cli/out").mkdir()
         self.edit("crates/pcm_cli/out/pcm_cli", "")
@@ -233,6 +320,13 @@ class Builds(unittest.TestCase):
         self.assertEqual(done.stderr.splitlines()[-1], "pcm: the proof of second failed; crates/pcm_cli/build.log says why")
         self.assertIn("error: no proof", (self.room.top / "crates/pcm_cli/build.log").read_text())
         self.assertEqual(self.room.run("pcm", "map").returncode, 70)
+        self.assertEqual(list((self.room.cache / "leqallqu").glob("kept/*")), [])
+
+    def test_what_the_kit_refuses_of_proved_crates_is_told(self):
+        (self.room.kit / "refuses").write_text("")
+        done = self.room.run("tools/build", "pcm_cli")
+        self.assertEqual((done.returncode, done.stderr.splitlines()[-1]), (1, "pcm: the kit refuses pcm_cli; crates/pcm_cli/build.log says why"))
+        self.assertFalse((self.room.top / "crates/pcm_cli/out").exists())
 
     def test_a_text_that_changes_while_it_is_proved_isnt_kept(self):
         (self.room.kit / "slow").write_text("1")
@@ -244,7 +338,7 @@ class Builds(unittest.TestCase):
         self.assertIn("the text of first changed while it was proved: build again", said)
 
     def test_a_second_build_says_that_it_waits_and_then_makes_nothing(self):
-        (self.room.kit / "slow").write_text("0.5")
+        (self.room.kit / "slow").write_text("3")
         first = self.room.start("tools/build", "pcm_stream")
         self.room.wait_for_call()
         second = self.room.run("tools/build", "pcm_stream")
@@ -254,13 +348,13 @@ class Builds(unittest.TestCase):
         self.assertEqual(self.room.called(), ["first", "pcm_stream"])
 
     def test_builds_in_two_clones_prove_each_crate_once(self):
-        (self.room.kit / "slow").write_text("0.5")
+        (self.room.kit / "slow").write_text("3")
         other = self.room.repository("another clone")
         builds = [self.room.start("tools/build", "pcm_cli", top=top) for top in (self.room.top, other)]
         said = [it.communicate(timeout=600)[1] for it in builds]
         self.assertEqual([it.returncode for it in builds], [0, 0], said)
         self.assertEqual(self.room.called(), ["first", "pcm_cli", "second"])
-        self.assertTrue(any("another build proves first just now: waiting for it" in it for it in said))
+        self.assertTrue(any("another build proves first just now: waiting for it" in it for it in said), said)
 
     def test_ctrl_c_and_other_signals_end_a_build_with_all_that_it_started(self):
         (self.room.kit / "slow").write_text("30.071")
@@ -272,8 +366,9 @@ class Builds(unittest.TestCase):
             build.send_signal(number)
             said = build.communicate(timeout=600)[1]
             self.assertEqual((build.returncode, said.splitlines()[1:]), (128 + number, told))
-            self.assertEqual(list((self.room.cache / "leqallqu" / "making").iterdir()), [])
-            self.assertNotIn("30.071", subprocess.run(["ps", "-eo", "args"], capture_output=True, text=True).stdout)
+            self.assertEqual(list((self.room.cache / "leqallqu" / "rooms").iterdir()), [])
+            self.assertFalse((self.room.top / "crates/pcm_stream/out").exists())
+            self.assertNotIn(str(self.room.kit), subprocess.run(["ps", "-eo", "args"], capture_output=True, text=True).stdout)
             self.room.called()
 
     def test_words_of_a_build(self):
@@ -299,6 +394,18 @@ class Builds(unittest.TestCase):
         (self.room.folder / "temporary").mkdir()
         self.build("pcm_stream", XDG_CACHE_HOME=str(self.room.top / ".cache"), TMPDIR=str(self.room.folder / "temporary"))
         self.assertEqual(self.room.refused(), [])
+
+    def test_where_the_kit_cant_keep_beside_itself_it_does_by_another_name(self):
+        self.room.store.write_text("")
+        self.build("pcm_stream")
+        self.assertEqual(self.room.called(), ["first", "pcm_stream"])
+        self.edit("crates/pcm_stream/src/main.rt", "fn other() {}\n")
+        self.build("pcm_stream")
+        self.assertEqual(self.room.called(), ["pcm_stream"])
+        self.build("--clean")
+        shutil.rmtree(self.room.top / "crates/pcm_stream/out")
+        self.build("pcm_stream")
+        self.assertEqual(self.room.called(), ["first", "pcm_stream"])
 
     def test_few_entries_of_a_crate_stay(self):
         for number in range(5):
@@ -555,8 +662,9 @@ class WrongBodies(unittest.TestCase):
             (path / f"{name}.edit").write_text(f"file: src/{root}.rt\nold: -- {crate}\nnew: -- {new}\n")
 
     def says(self, status, *lines, words=()):
+        """(crates are told as they are done)"""
         done = self.room.run("tools/wrong", *words)
-        self.assertEqual((done.returncode, done.stdout.splitlines()), (status, list(lines)), done.stderr)
+        self.assertEqual((done.returncode, sorted(done.stdout.splitlines())), (status, sorted(lines)), done.stderr)
 
     def test_those_that_the_gate_leaves_out_are_tried(self):
         told = "refused: src/lib.rt:1:1: error: no proof"
@@ -568,9 +676,151 @@ class WrongBodies(unittest.TestCase):
         self.says(1, "pcm_cli/let: NOT REFUSED: the crate is still proved",
                   "pcm_cli/misfit: NOT TRIED: what it changes doesn't stand once in its file", "0 passed, 2 failed", words=("pcm_cli",))
 
+    def test_those_whose_text_changed_are_tried_again_and_no_release_is_made_before(self):
+        told = "refused: src/lib.rt:1:1: error: no proof"
+        (self.room.top / "crates" / "pcm_cli" / "wrong" / "let.edit").unlink()
+        self.says(1, "2 crates to be tried: first second", words=("--stale", "--list"))
+        done = self.room.run("tools/dist", str(self.room.folder))
+        self.assertEqual((done.returncode, done.stderr.partition(" no wrong")[0]), (1, "tools/dist: of first, second"))
+        self.says(0, "2 crates to be tried: first second", f"first/three: {told}", f"second/one: {told}", "2 passed, 0 failed", words=("--stale",))
+        self.says(0, "0 crates to be tried", "0 passed, 0 failed", words=("--stale",))
+        lines = (self.room.top / "tools" / "tried.txt").read_text().splitlines()
+        self.assertRegex(lines[2], r"\Afirst [0-9a-f]{32} 1 \d{4}-\d\d-\d\d a kit for tests\Z")
+        with open(self.room.top / "crates" / "first" / "proofs" / "Lib.antt", "a") as proofs:
+            proofs.write("-- another proof\n")
+        self.says(1, "1 crates to be tried: first", words=("--stale", "--list"))
+        with open(self.room.top / "crates" / "first" / "specs" / "Lib.antt", "a") as specs:
+            specs.write("-- another definition\n")
+        self.says(1, "2 crates to be tried: first second", words=("--stale", "--list"))
+
+    def test_one_that_is_not_refused_is_not_noted(self):
+        self.says(1, "pcm_cli/let: NOT REFUSED: the crate is still proved", "0 passed, 1 failed", words=("pcm_cli",))
+        self.assertFalse((self.room.top / "tools" / "tried.txt").exists())
+
     def test_a_crate_that_is_not_proved_as_it_stands_is_told(self):
         (self.room.top / "crates" / "second" / "src" / "lib.rt").write_text("-- second\n-- wrong\n")
         self.says(1, "second: its check as it stands ended with status 1: logic=not-proved functions=1", "0 passed, 1 failed", words=("second",))
+
+
+class Unused(unittest.TestCase):
+    """What tools/lint finds: in a small repository where all is used, and where one thing of each kind isn't."""
+
+    TEXTS = {
+        "crates.txt": "# 1. PARTS\nlow:\nhigh: low\n",
+        "crates/low/src/lib.rt": "//! A part.\npub fn part() {}\n", "crates/low/specs/Parts.antt": "pub half : One\nhalf = one\n",
+        "crates/low/proofs/Lib.antt": "pub mod Halves\n",
+        "crates/low/proofs/Halves.antt": "use Rattle.low.specs.Parts.{half}\n\npub halved : half ≡ half\nhalved = rule\n",
+        "crates/high/src/lib.rt": "//! A whole.\npub fn whole() { low::part() }\n", "crates/high/specs/Lib.antt": "-- nothing\n",
+        "crates/high/proofs/Lib.antt": "use Rattle.low.proofs.Halves.{halved}\n\n-- by halved\nwhole = halved\n",
+        "script.py": "import sys\nimport shared  # noqa: F401\n\nprint(sys.argv)\n", "folder/script": "#!/bin/sh\necho \"$1\"\n",
+    }
+
+    def setUp(self):
+        self.top = pathlib.Path(tempfile.mkdtemp(prefix="pcm tools ")) / "a clone"
+        self.addCleanup(shutil.rmtree, self.top.parent)
+        for name in ("edges", "unused", "imports", "lint", "crates.py", "definitions.py"):
+            (self.top / "tools").mkdir(parents=True, exist_ok=True)
+            shutil.copy(TOP / "tools" / name, self.top / "tools")
+        (self.top / "examples").mkdir()
+        shutil.copy(TOP / "examples" / "counting.sh", self.top / "examples")
+        for path, text in self.TEXTS.items():
+            self.write(path, text)
+
+    def write(self, path, text):
+        (self.top / path).parent.mkdir(parents=True, exist_ok=True)
+        (self.top / path).write_text(text)
+
+    def lint(self):
+        done = subprocess.run([self.top / "tools" / "lint"], capture_output=True, text=True)
+        told = [it for it in done.stdout.splitlines() if "skipped" not in it]
+        self.assertEqual(done.returncode, int(" 0 failed" not in told[-1]), done.stderr)
+        return told[:-1]
+
+    def planted(self, path, text, *said):
+        before = self.TEXTS.get(path)
+        self.write(path, text)
+        self.assertEqual(self.lint(), list(said))
+        self.write(path, before) if before else (self.top / path).unlink()
+
+    def test_where_all_is_used_nothing_is_said(self):
+        self.assertEqual(self.lint(), [])
+
+    def test_what_stands_twice_is_listed(self):
+        shutil.copy(TOP / "tools" / "twins", self.top / "tools")
+        lines = [f"step {number}\n" for number in range(6)]
+        self.write("crates/low/proofs/Halves.antt", f"-- one\n{''.join(lines)}")
+        self.write("crates/high/proofs/Lib.antt", f"use Rattle.low\nbefore\n{''.join(lines[:3])}-- more\n\n{lines[3]}behind\n{''.join(lines[:3])}")
+        asked = [subprocess.run([self.top / "tools" / "twins", least], capture_output=True, text=True).stdout.splitlines() for least in "345"]
+        pairs = ["low/proofs/Halves.antt:2 high/proofs/Lib.antt:3", "low/proofs/Halves.antt:2 high/proofs/Lib.antt:10", "high/proofs/Lib.antt:3 high/proofs/Lib.antt:10"]
+        self.assertEqual(asked, [[f"4 lines: {pairs[0]}", f"3 lines: {pairs[2]}", f"3 lines: {pairs[1]}"], [f"4 lines: {pairs[0]}"], []])
+
+    def test_a_library_a_lemma_and_an_import_that_nothing_uses(self):
+        self.planted("crates.txt", "# 1. PARTS\nlow:\nhigh: low hex\n", "high: hex", "tools/lint: libraries that no file of their crate cites: failed")
+        lemma = f"{self.TEXTS['crates/low/proofs/Halves.antt']}\npub doubled : half ≡ half\ndoubled = rule\n"
+        self.planted("crates/low/proofs/Halves.antt", lemma, "crates/low/proofs/Halves.antt: doubled", "tools/lint: lemmas that nothing names: failed")
+        imports = "use Rattle.low.specs.Parts.{half, ◌+◌}\nuse Rattle.low.specs.Parts as parts\npub use Rattle.low.specs.Parts.{half}\n\n-- half\nother = 1 + 1\n"
+        self.planted("crates/high/specs/Lib.antt", imports, "crates/high/specs/Lib.antt: names nowhere Rattle.low.specs.Parts.half",
+                     "tools/lint: imports that their file names nowhere: failed")
+
+    @unittest.skipUnless(shutil.which("pyflakes3") or shutil.which("pyflakes"), "there is no pyflakes3")
+    def test_a_module_that_a_script_of_python_imports_for_nothing(self):
+        self.planted("folder/more", "#!/usr/bin/env python3\nimport os\n", "./folder/more:2:1: 'os' imported but unused", "tools/lint: Python: failed")
+
+    @unittest.skipUnless(shutil.which("shellcheck"), "there is no shellcheck")
+    def test_a_fault_of_a_shell_script(self):
+        self.write("folder/more.sh", "#!/bin/sh\ncd /tmp\n")
+        self.assertIn("In ./folder/more.sh line 2:", self.lint())
+
+
+def can_mount():
+    asked = ["unshare", "-m", "true"] if os.geteuid() == 0 else ["unshare", "-r", "-m", "true"]
+    return bool(shutil.which("unshare") and shutil.which("git")) and subprocess.run(asked, capture_output=True).returncode == 0
+
+
+class Measured(unittest.TestCase):
+    """What bench/gate runs: in a repository whose commands say what is kept as they begin, and keep their names."""
+
+    def setUp(self):
+        self.folder = pathlib.Path(tempfile.mkdtemp(prefix="pcm tools "))
+        self.addCleanup(shutil.rmtree, self.folder)
+        self.top, self.kept = self.folder / "repo", self.folder / "rattle-kept"
+        (self.folder / "kit" / "bin").mkdir(parents=True)
+        Room.script(self.folder / "kit" / "bin" / "rt", f"#!/bin/sh\necho '{self.folder}/kit/START-HERE.md'\n")
+        self.kept.mkdir()
+        (self.kept / "own").write_text("")
+        shutil.copytree(TOP / "bench", self.top / "bench", ignore=shutil.ignore_patterns("__pycache__"))
+        for path in ("pcm", ".ci/run", "tools/test"):
+            (self.top / path).parent.mkdir(exist_ok=True)
+            says = f"echo {path} $(ls '{self.kept}') over $(ls \"$XDG_CACHE_HOME\"), ${{CI:-no CI}}"
+            Room.script(self.top / path, f"#!/bin/sh\n{says}\n: >'{self.kept}'/{pathlib.Path(path).name} >\"$XDG_CACHE_HOME\"/cached\n")
+        (self.top / "VERSION").write_text("1.0.0\n")
+        (self.top / "docs").mkdir()
+        (self.top / "docs" / "FIGURES.md").write_text("# Figures\n\n<!-- gate -->\n<!-- /gate -->\n")
+        self.around = {**os.environ, "PATH": f"{self.folder}/kit/bin:{os.environ['PATH']}", "CI": "true"}
+        author = ("-c", "user.name=tests", "-c", "user.email=tests@example.org")
+        for words in (("init", "-q"), ("add", "."), (*author, "commit", "-q", "-m", "first"), ("rm", "-q", "tools/test"), (*author, "commit", "-q", "-m", "second")):
+            subprocess.run(["git", *words], cwd=self.top, check=True)
+
+    def gate(self, *words):
+        done = subprocess.run([self.top / "bench" / "gate", *words], env=self.around, capture_output=True, text=True)
+        self.assertEqual(done.returncode, 0, done.stderr)
+        return done.stdout.splitlines()
+
+    @unittest.skipUnless(can_mount(), "there is no unshare that may mount")
+    def test_each_commit_begins_with_nothing_kept_and_the_gate_behind_a_build_finds_what_it_kept(self):
+        told = [it.rpartition("): ")[2] for it in self.gate("--commit", "HEAD~1", "--baseline", "HEAD")]
+        first = ["pcm over , no CI", ".ci/run pcm over cached, no CI", "tools/test pcm run over cached, no CI", ".ci/run over , no CI"]
+        self.assertEqual(told, [*first, *(it for it in first if not it.startswith("tools/test"))])
+        self.assertEqual([it.name for it in self.kept.iterdir()], ["own"])
+        page = (self.top / "docs" / "FIGURES.md").read_text()
+        self.assertRegex(page, r"\| commit \| `./pcm` \| the gate behind it \| `tools/test` alone \| the gate from nothing \|\n\| --- (\| --- ){4}\|\n")
+        self.assertRegex(page, r"\n\| [0-9a-f]{8}, 1.0.0 (\| 0.0 \(0.0\) ){4}\|\n\| [0-9a-f]{8}, 1.0.0 (\| 0.0 \(0.0\) ){2}\| \| 0.0 \(0.0\) \|\n")
+
+    def test_a_dry_run_prints_the_commands_alone(self):
+        told = self.gate("--dry", "--cpus", "0,1", "--baseline", "none", "--steps", "nothing", "build")
+        self.assertEqual([it.split(": ")[1] for it in told], ["build", "nothing"])
+        self.assertTrue(all("nothing kept: unshare" in it and " taskset -c 0,1 " in it for it in told), told)
+        self.assertNotIn("commit", (self.top / "docs" / "FIGURES.md").read_text())
 
 
 class Pages(unittest.TestCase):
@@ -752,6 +1002,52 @@ class Watching(unittest.TestCase):
             trace.seek(0)
             done = self.watch("head -c 500 >/dev/null; sleep 1.4", "--print", "summary", stdin=trace)
         self.assertRegex(done.stderr, r"^1 s, (50|100)%")
+
+
+class Tested(unittest.TestCase):
+    """What tools/test calls, and what it says of programs that aren't built."""
+
+    def setUp(self):
+        self.top = pathlib.Path(tempfile.mkdtemp(prefix="pcm tools ")) / "a clone"
+        self.addCleanup(shutil.rmtree, self.top.parent)
+        for path in ("tools/test", "examples/counting.sh"):
+            (self.top / path).parent.mkdir(parents=True, exist_ok=True)
+            shutil.copy(TOP / path, self.top / path)
+        (self.top / "crates" / "low" / "src").mkdir(parents=True)
+        (self.top / "crates" / "low" / "specs").mkdir()
+        (self.top / "docs").mkdir()
+        counts = "echo '2 passed, 0 failed'"
+        for path, does in (
+            ("tools/lint", counts), ("tools/test_tools.py", "echo 'Ran 3 tests in 0s'"), ("docs/test_checking.py", "echo 'Ran 4 tests in 0s'"),
+            ("docs/check", f'printf "documents: %s\\n" "$*"; {counts}'), ("examples/check", f'printf "examples:"; printf " (%s)" "$@"; echo; {counts}'),
+            ("tools/wrong", "echo '1 crates to be tried: low'; exit 1"),
+        ):
+            Room.script(self.top / path, f"#!/bin/sh\n{does}\n")
+
+    def build(self, *names):
+        for name in names:
+            (self.top / "crates" / name / "out").mkdir(parents=True, exist_ok=True)
+            Room.script(self.top / "crates" / name / "out" / name, "")
+
+    def says(self, *lines):
+        done = subprocess.run([self.top / "tools" / "test"], capture_output=True, text=True)
+        self.assertEqual((done.returncode, done.stdout.splitlines()), (0, list(lines)), done.stderr)
+
+    def test_with_all_programs(self):
+        self.build(*PROGRAMS)
+        files = [f"crates/{name}/out/{name}" for name in PROGRAMS]
+        told = [f"documents: {files[0]}", f"examples: {' '.join(f'({it})' for it in files)}", "tools/test: wrong bodies of wrong/: 1 crates to be tried: low"]
+        self.says(*told, "13 passed, 0 failed")
+        (self.top / "crates" / "low" / "src" / "lib.rt").write_text("")
+        os.utime(self.top / "crates" / "low" / "src" / "lib.rt", (2**31, 2**31))
+        self.says(*(f"tools/test: {it} is older than some text: it is tried as it is" for it in files), *told, "13 passed, 0 failed")
+
+    def test_without_some(self):
+        self.build("pcm_cli", "pcm_explain")
+        lacks = [f"tools/test: what wants {it}: skipped: it isn't built (tools/build {it})" for it in ("pcm_stream", "pcm_view")]
+        lacks.append("tools/test: commands that documents show: skipped: not all programs are built")
+        told = ["documents: ", "examples: (crates/pcm_cli/out/pcm_cli) () (crates/pcm_explain/out/pcm_explain) ()"]
+        self.says(*lacks, *told, "tools/test: wrong bodies of wrong/: 1 crates to be tried: low", "13 passed, 0 failed, 3 skipped")
 
 
 class Counting(unittest.TestCase):

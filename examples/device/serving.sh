@@ -1,3 +1,4 @@
+# shellcheck shell=bash
 # Functions for the scripts of this folder. `need TOOL PACKAGE ..` ends the script with status 77 where a tool isn't there; `serve KEY=VALUE ..`
 # starts a server of the disk, `unserve` ends it and prints its report in one line, `fails` ends the script with what the server said. $pcm is the program; $dir is a folder that goes away with
 # the shell, and with it all that was started.

@@ -16,7 +16,6 @@ use Rattle.row_rules.specs.{Answers.accepts, Lines.IsOfLines, Rows.{each_row, ne
 use Rattle.row_rules.specs.{Ticking.{attempt, tries, writings}, declared.Asks.Asks, declared.Asks.TheVariants.{Reads, Writes, Cuts}, declared.Row.Row, declared.Rules.Rules}
 use Rattle.check_verdict.specs.Verdicts.{RowsOk}
 use Rattle.trace_rows.{specs.Rows.{rows_with, row_of, asks_of}, proofs.Lines.lines-exist}
-use Rattle.run_text.specs.ResultText.{asked}
 use Rattle.module_shape.specs.{Addresses.{array_lines_of, module_of}, Limits.{IsShape, IsSmall, total_of}, declared.raw.RawShape.RawShape}
 use Rattle.right_runs.specs.{Banks.rules_in, Ends.BankEnd, Runs.RunsRight}
 use Rattle.run_laws.specs.RowsOfRuns.{FewArrayLinesLaw, LinesExist, OwnOutcomesLaw, PlacesExistLaw}

@@ -6,3 +6,6 @@ mod Rows
 mod Lines
 mod Along
 mod Law
+mod Deciding
+mod Turned
+mod Turning

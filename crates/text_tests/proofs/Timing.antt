@@ -1,5 +1,5 @@
 -- An outcome with a tick of at most 15 digits.
-use Rattle.std.proofs.Common.{◌≡◌, ℕ, ◌^◌, ◌<◌, ◌≤◌, Bool, true, false, List, [], ◌∷◌, length, Option, Some, None, refl, ap, ◌∙◌, sym, subst, arith}
+use Rattle.std.proofs.Common.{◌≡◌, ℕ, ◌^◌, true, List, [], ◌∷◌, length, Option, Some, None, refl, ap, sym, subst, arith}
 use Rattle.std.{specs.Prelude.All, proofs.lemmas.Bool.ltb-true, proofs.lemmas.List.Elements.All-cons}
 use Rattle.trace_reader.specs.{Events.AreEventsFor, declared.event.EventOp.TheVariants.{Write, Read}}
 use Rattle.check_verdict.specs.Within.{AreWithin}

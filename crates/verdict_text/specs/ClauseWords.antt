@@ -1,5 +1,5 @@
 -- The clauses of the rules, each by its name and in a sentence.
-use Rattle.std.specs.Prelude.{ℕ, List, ◌++◌, codes}
+use Rattle.std.specs.Prelude.{ℕ, List, codes}
 use Rattle.check_telling.specs.declared.Clause.{Clause}
 use Rattle.check_telling.specs.declared.Clause.TheVariants as clause
 

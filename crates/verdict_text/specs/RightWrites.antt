@@ -1,5 +1,5 @@
 -- Every answer that would be right for a write, a line each.
-use Rattle.std.specs.Prelude.{ℕ, List, [], ◌∷◌, ◌++◌, codes, decimal, Bool, true, false, ◌&&◌, if◌then◌else◌, Option, Some, None}
+use Rattle.std.specs.Prelude.{ℕ, List, [], ◌∷◌, ◌++◌, codes, decimal, ◌&&◌, if◌then◌else◌, Option, Some, None}
 use Rattle.check_telling.specs.{declared.facts.RowAt.RowAt, declared.facts.StoreBound.StoreBound, declared.writes.WriteGrounds.WriteGrounds}
 
 -- ticks, each behind a space

@@ -1,4 +1,4 @@
-use Rattle.std.proofs.Common.{◌<◌, arith}
+use Rattle.std.proofs.Common.{arith}
 use Rattle.ecp_line.proofs.Sizes.{layout_64}
 use Rattle.text_tests.proofs.images.first_line.Goals as goal
 

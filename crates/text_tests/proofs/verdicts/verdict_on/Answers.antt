@@ -1,4 +1,4 @@
-use Rattle.std.proofs.Common.{◌≡◌, ◌∙◌, ◌≤◌, ap, refl, replicate, arith}
+use Rattle.std.proofs.Common.{◌∙◌, ap, refl, replicate, arith}
 use Rattle.result_rows.specs.Table.{with_outcome}
 use Rattle.text_tests.proofs.Timing.{two_checkable}
 use Rattle.text_tests.proofs.verdicts.verdict_on.Goals as goal

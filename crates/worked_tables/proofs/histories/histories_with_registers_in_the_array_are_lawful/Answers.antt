@@ -1,4 +1,4 @@
-use Rattle.std.proofs.Common.{rules, refl}
+use Rattle.std.proofs.Common.{rules}
 use lib.Count.{count_trailing_zeros}
 use Rattle.ecp_line.specs.{Layout.{width, number, leading, active, source_below}, Reading.decode}
 use Rattle.cell_rows.specs.Rows.{cell}
