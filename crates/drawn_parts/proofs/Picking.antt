@@ -1,6 +1,6 @@
 -- Events that are picked, and others that are left out.
-use Rattle.std.proofs.Common.{◌≡◌, ℕ, ◌≤◌, Bool, true, false, List, [], ◌∷◌, length, refl, sym, subst, ap, cond, ◌∙◌, arith}
-use Rattle.trace_reader.specs.{Events.{AreEventsFor, IsEventFor}, declared.event.Event.Event}
+use Rattle.std.proofs.Common.{◌≡◌, ℕ, ◌≤◌, Bool, true, false, List, [], ◌∷◌, length, subst, ap, cond, ◌∙◌, arith}
+use Rattle.trace_reader.specs.{Events.{AreEventsFor}, declared.event.Event.Event}
 use Rattle.trace_reader.proofs.Lawful.{lawful-first}
 use Rattle.drawn_parts.specs.{Parts.{events_for, is_for}, declared.Banks.Banks}
 

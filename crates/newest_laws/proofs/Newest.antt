@@ -1,9 +1,9 @@
 -- The newest bytes of a line are those of its accepted writes, laid over each other.
-use Rattle.std.proofs.Common.{◌≡◌, ℕ, Bool, true, false, not, cond, List, [], ◌∷◌, map, refl, sym, ap, ◌∙◌}
+use Rattle.std.proofs.Common.{◌≡◌, ℕ, Bool, true, false, cond, List, [], ◌∷◌, map, refl, sym, ap, ◌∙◌}
 use Rattle.std.specs.Prelude.{filter, replicate}
 use Rattle.masked_bytes.specs.{Entries.Layer, Masked.laid}
 use Rattle.result_rows.specs.declared.Outcome.{Outcome}
-use Rattle.row_rules.specs.{Rows.{accepted_of, is_cut, lay_row, newest}, declared.Asks.Asks, declared.Asks.TheVariants.{Reads, Writes, Cuts}, declared.Row.Row}
+use Rattle.row_rules.specs.{Rows.{accepted_of, lay_row, newest}, declared.Asks.Asks, declared.Asks.TheVariants.{Reads, Writes, Cuts}, declared.Row.Row}
 use Rattle.newest_laws.specs.Newest.{CutsLaw, WritesLaw, given_in, without_cuts, writes_of}
 
 module _ (n : ℕ) where

@@ -1,5 +1,5 @@
 -- No event of a module is of another bank than one of all.
-use Rattle.std.proofs.Common.{◌≡◌, ℕ, ◌<◌, ◌≤◌, ◌&&◌, Bool, true, List, [], ◌∷◌, refl, ap, ap₂, ◌∙◌, cond, arith}
+use Rattle.std.proofs.Common.{◌≡◌, ℕ, ◌<◌, ◌&&◌, Bool, true, List, [], ◌∷◌, refl, ap, ap₂, ◌∙◌, cond, arith}
 use Rattle.std.proofs.lemmas.Bool.{le-leb}
 use Rattle.trace_reader.specs.{Events.{AreEventsFor, IsOpFor}, declared.event.Event.Event, declared.event.EventOp.EventOp}
 use Rattle.trace_reader.specs.declared.event.EventOp.TheVariants.{Read, Write, Mask, Cut}

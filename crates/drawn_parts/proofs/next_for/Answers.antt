@@ -1,4 +1,4 @@
-use Rattle.std.proofs.Common.{◌≡◌, ◌∙◌, ℕ, List, length, sym, subst, ap, arith}
+use Rattle.std.proofs.Common.{◌∙◌, List, length, sym, subst, ap, arith}
 use Rattle.module_shape.specs.Limits.{total_of}
 use Rattle.trace_reader.specs.{Events.AreEventsFor, declared.event.Event.Event}
 use Rattle.trace_reader.proofs.{Lawful.lawful-first, Sizes.op_fits}

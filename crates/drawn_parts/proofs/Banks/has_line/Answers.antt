@@ -1,4 +1,4 @@
-use Rattle.std.proofs.Common.{◌≡◌, ◌<◌, ℕ, subst, sym}
+use Rattle.std.proofs.Common.{◌<◌, ℕ, subst, sym}
 use Rattle.drawn_parts.proofs.Banks.has_line.Goals as goal
 
 pub forward-requires : goal.forward-requires
