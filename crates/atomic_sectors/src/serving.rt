@@ -159,6 +159,7 @@ pub fn serve_all<const B: usize, L: Lines<B>>(
     ensures whole { IsWhole B layout (stand B (L.made lines.new)) }
     ensures cause { IfOk result (λ answers. RoseBy (stops_in answers.items) (L.stops lines.old)
         (L.stops lines.new)) }
+    ensures count { L.count lines.new ≡ L.count lines.old }
 {
     let mut known = None;
     let mut answers = Vec::new(alloc);

@@ -117,8 +117,10 @@ pub fn serve_all<const B: usize, L: Lines<B>>(
         → IsServed B disk.old.layout (told asked requests.now answers.items) (L.made lines.new)) }
     ensures all { IfOk result (λ answers. length answers.items ≡ length requests.now) }
     ensures ready { IsReady B (L.made lines.new) disk.new }
+    ensures layout { disk.new.layout ≡ disk.old.layout }
     ensures cause { IfOk result (λ answers. RoseBy (stops_in answers.items) (L.stops lines.old)
         (L.stops lines.new)) }
+    ensures count { L.count lines.new ≡ L.count lines.old }
 {
     let mut answers = Vec::new(alloc);
     for request in requests {
