@@ -60,7 +60,8 @@ static inline char **pcm__variables(char *one, char *two)
 static inline enum pcm_result pcm_open_copied(struct pcm *pcm, const char *const words[], const char *library)
 {
     char number[32], path[4096];
-    int ends[2], size = snprintf(path, sizeof path, "LD_PRELOAD=%s", library);
+    const char *others = getenv("LD_PRELOAD"); /* (they stay) */
+    int ends[2], size = snprintf(path, sizeof path, "LD_PRELOAD=%s%s%s", library, others != NULL ? ":" : "", others != NULL ? others : "");
     enum pcm_result result = PCM_FAILED;
     memset(pcm, 0, offsetof(struct pcm, out));
     /* (the loader takes a blank or a colon for an end, passes a library over that it doesn't find, and searches for one without a slash) */

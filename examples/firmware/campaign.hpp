@@ -10,7 +10,7 @@
 /* What is tried. */
 struct Plan {
     std::string powerloss = "linear";
-    std::string cpu = "cortex-m7", table;
+    std::string cpu = "cortex-m7", table, rows;
     uint64_t cuts = 1000, seed = 1, limit = 10000000, from = 0, to = UINT64_MAX, every = 1, show = 1;
     uint32_t operations = 16, more = 1, bytes = 0;
     unsigned depth = 1; /* so many cuts, each within the boot behind the one before */
@@ -202,12 +202,15 @@ private:
             text += (i ? " < " : "") + image.where(i ? (it.calls[i] & ~1u) - 2 : it.calls[i]);
         return text;
     }
-    static std::string what(const Point &it)
+    /* What the power kept from being done. With a cache the module is written to where a line of that is written back. */
+    std::string what(const Point &it) const
     {
+        bool is_access = it.kind != Kind::acknowledge && it.kind != Kind::end;
+        const char *begin = is_access && plan.wiring.cache != 0 && !plan.at_each_access ? "before a cached line is written back, at " : "before ";
         switch (it.kind) {
-        case Kind::load: return "before a load at " + hex(it.at, 4);
-        case Kind::store: return "before the store of " + hex(it.value, static_cast<int>(2 * it.size)) + " at " + hex(it.at, 4);
-        case Kind::clean: return "before a clean of the cache at " + hex(it.at, 4);
+        case Kind::load: return begin + ("a load at " + hex(it.at, 4));
+        case Kind::store: return begin + ("the store of " + hex(it.value, static_cast<int>(2 * it.size)) + " at " + hex(it.at, 4));
+        case Kind::clean: return begin + ("a clean at " + hex(it.at, 4));
         case Kind::acknowledge: return "before operation " + std::to_string(it.at) + " is acknowledged";
         default: return "behind the last store";
         }
@@ -220,10 +223,22 @@ private:
              + std::to_string(it.acked) + "," + quoted(where(it)) + "," + quoted(verdict.is_right() ? "ok" : verdict.wrong));
         if (verdict.is_right())
             return;
-        wrong++;
+        if (wrong++ == 0 && !plan.rows.empty())
+            keep_rows(module);
         kinds[verdict.kind()]++;
         if (shown++ < plan.show)
             show(path, verdict, module);
+    }
+    /* The rows up to a cut, as a trace for the program by the same options. */
+    void keep_rows(const Module &module) const
+    {
+        FILE *file = fopen(plan.rows.c_str(), "w");
+        if (file == nullptr)
+            throw Refusal(plan.rows + ": " + strerror(errno));
+        std::string trace = module.trace();
+        bool is_written = fwrite(trace.data(), 1, trace.size(), file) == trace.size();
+        if (fclose(file) != 0 || !is_written)
+            throw Refusal(plan.rows + ": it can't be written");
     }
     /* A cut behind which something is wrong: where it came, and what memory held. */
     void show(const Path &path, const Verdict &verdict, Module &module)

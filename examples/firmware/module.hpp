@@ -13,6 +13,7 @@
 struct Making {
     std::vector<std::string> words; /* of the program */
     std::string library;            /* pcm_copy.so; "" where a copy plays the rows again */
+    bool keeps_rows = false;        /* whatever copies want */
 };
 
 class Module {
@@ -58,6 +59,11 @@ public:
         else if (result != PCM_FAILED)
             must(result, "a copy");
         return result == PCM_OK ? 0 : fault;
+    }
+    /* A trace of its life so far, and a cut behind it, where its rows are kept. */
+    std::string trace() const
+    {
+        return "tick,op,arg,data\n" + rows + std::to_string(tick) + ",C,,\n";
     }
     /* How many of the rows that were sent have a number. */
     size_t sent() const { return pcm.rows; }
@@ -119,7 +125,7 @@ private:
         }
     } held;
     struct pcm &pcm = held.pcm;
-    std::string rows;         /* that were sent, each a line, where a copy plays them */
+    std::string rows;         /* that were sent, each a line, where they are kept */
     std::vector<size_t> ends; /* of each of them */
     std::set<uint32_t> standing; /* writes that aren't known to be stored, merged or refused */
     uint32_t answered = 0;
@@ -142,7 +148,7 @@ private:
     void begin()
     {
         held.is_finished = making.library.empty();
-        if (making.library.empty()) {
+        if (making.library.empty() || making.keeps_rows) {
             pcm.log = keep;
             pcm.context = this;
         }

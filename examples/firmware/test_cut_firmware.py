@@ -207,6 +207,30 @@ class Firmware(unittest.TestCase):
         self.assertEqual((status, out), said(*words)[:2])
         self.assertIn("cut-firmware: the program can't be copied (Operation not supported): its rows are played again for each cut\n", err)
 
+    def test_a_library_whose_path_no_loader_takes_is_told(self):
+        words = [HERE / "images" / "COMMIT_FIRST.elf", *MODULE, "--every", "40", "--show", "0"]
+        library = self.room / "a folder" / "pcm_copy.so"
+        library.parent.mkdir()
+        library.write_bytes(pathlib.Path(TOOL).with_name("pcm_copy.so").read_bytes())
+        status, out, err = said(*words, "--library", library)
+        self.assertEqual((status, out), said(*words)[:2])
+        self.assertEqual(err, f"cut-firmware: {library}: the loader takes a blank or a colon for its end: the rows are played again for each cut\n")
+
+    def test_the_rows_up_to_a_wrong_cut_are_a_trace(self):
+        """Played again with the power off behind it, the module holds what was shown."""
+        for by in ("copy", "replay"):
+            path = self.room / "rows.csv"
+            _, out, _ = said(HERE / "images" / "COMMIT_FIRST.elf", *MODULE, "--by", by, "--to", "4", "--rows", path)
+            words = [os.environ["PCM"], *([] if "pcm_stream" in os.environ["PCM"] else ["stream"]), *MODULE[:10], "--seed", "1", "--end", "off", "--print", "rows"]
+            with path.open() as trace:
+                done = subprocess.run(words, stdin=trace, stdout=subprocess.PIPE, check=False)
+            rows = path.read_text().splitlines()
+            self.assertEqual(rows[-1].split(",")[1:], ["C", "", ""])
+            self.assertIn(f"at tick {rows[-1].split(',')[0]}, 0 operations", out)
+            self.assertIn(done.returncode, (0, 1))
+            self.assertEqual(len(done.stdout.splitlines()), len(rows))
+        self.assertEqual(said(HERE / "images" / "COMMIT_FIRST.elf", *MODULE, "--rows", "/dev/full")[::2], (2, "cut-firmware: /dev/full: it can't be written\n"))
+
     def test_the_same_words_give_the_same(self):
         words = [HERE / "images" / "RIGHT.elf", *MODULE[:10], "--powerloss", "random", "--cuts", "60", "--cache", "4"]
         self.assertEqual(said(*words, "--seed", "5"), said(*words, "--seed", "5"))

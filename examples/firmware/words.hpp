@@ -29,6 +29,7 @@ static const char usage[] =
     "  --cpu C           cortex-m0, cortex-m3, cortex-m4, cortex-m7 (default) or cortex-m33\n"
     "  --show N          so many wrong cuts are shown, with their lines and what memory held (1)\n"
     "  --table FILE      a row for each cut\n"
+    "  --rows FILE       the rows of the module up to the first wrong cut, which pcm stream --end off plays by the same options\n"
     "  --by B            copy (default): the program is forked at each moment; replay: its rows are played into a new one\n"
     "  --library FILE    pcm_copy.so, by which it is forked (beside this program)\n"
     "  --pcm PROGRAM     pcm (the environment's PCM, or that of the checkout or of the installed tree)\n"
@@ -64,9 +65,14 @@ public:
             plan.making.words.push_back(word);
         for (const std::string &word : {std::string("--seed"), std::to_string(plan.seed), std::string("--tell"), std::string("shape")})
             plan.making.words.push_back(word);
+        plan.making.keeps_rows = !plan.rows.empty();
         if (by != "copy" || plan.powerloss == "random" || plan.powerloss == "none")
             return;
         plan.making.library = library.empty() ? found_library() : library;
+        if (plan.making.library.find_first_of(" :") != std::string::npos) {
+            fprintf(stderr, "cut-firmware: %s: the loader takes a blank or a colon for its end: the rows are played again for each cut\n", plan.making.library.c_str());
+            plan.making.library.clear();
+        }
         int fault = plan.making.library.empty() ? 0 : Module(plan.making).copy_fault();
         if (fault != 0) {
             fprintf(stderr, "cut-firmware: the program can't be copied (%s): its rows are played again for each cut\n", strerror(fault));
@@ -174,6 +180,8 @@ private:
             Board::model_of(plan.cpu = value(word));
         else if (name == "--table")
             plan.table = value(word);
+        else if (name == "--rows")
+            plan.rows = value(word);
         else if (name == "--library")
             library = value(word);
         else if (name == "--pcm")

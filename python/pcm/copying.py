@@ -76,6 +76,8 @@ class Asks:
         self.library = os.path.abspath(library) if isinstance(library, str) else _built()[1]
         if not os.access(self.library, os.R_OK):
             raise PcmError(None, f"{self.library}: there is no such library")
+        if " " in self.library or ":" in self.library:
+            raise PcmError(None, f"{self.library}: the loader takes a blank or a colon for the end of its path")
         if sys.platform != "linux":
             raise PcmError(None, "modules are copied on Linux alone")
         self._socket, self._theirs = socket.socketpair(socket.AF_UNIX, socket.SOCK_SEQPACKET)
@@ -84,7 +86,8 @@ class Asks:
     def started(self, words: List[str], said: IO[bytes]) -> "subprocess.Popen[bytes]":
         """Starts the program with the library in it."""
         fd = self._theirs.fileno()
-        variables = {**os.environ, "LD_PRELOAD": self.library, "PCM_COPY": str(fd)}
+        preloaded = [self.library, *filter(None, [os.environ.get("LD_PRELOAD")])]
+        variables = {**os.environ, "LD_PRELOAD": ":".join(preloaded), "PCM_COPY": str(fd)}
         with self._theirs:
             return subprocess.Popen(words, stdin=subprocess.PIPE, stdout=subprocess.PIPE, stderr=said, env=variables, pass_fds=[fd])
 
