@@ -6,8 +6,8 @@ import fcntl
 import json
 import os
 import pathlib
-from dataclasses import dataclass
-from typing import Dict, Iterator, List, Optional, Tuple
+from dataclasses import dataclass, field
+from typing import Dict, Iterator, List, NamedTuple, Optional, Tuple
 
 from .drawn import draw_of
 from .errors import PcmError, UsageError
@@ -76,35 +76,62 @@ class Asked:
         left_out = ("input", *DRAWN)
         return [word for name, value in self.options.items() if name not in left_out for word in (f"--{name}", value)]
 
-    def splitting(self, folder: pathlib.Path, to: str) -> List[str]:
-        """The words of the pass that splits the trace."""
-        words = ["split", *["--off"] * (self.value("end") == "off")]
+    def splitting(self, folder: pathlib.Path, to: str, piece: "Optional[Piece]" = None) -> List[str]:
+        """The words of the pass that splits the trace, or a piece of it, behind all of which a cut is still to be added."""
+        words = ["split", *["--off"] * (self.value("end") == "off" and piece is None)]
         if self.kind in PLACED:
             words += ["--index", str(folder / "index.")]
+        if piece is not None:
+            words += ["--piece", *map(str, piece)]
         if self.is_drawn:
             values = {name: self.value(name) for name in COMMANDS["stream"].options}
             words += ["--drawn", ",".join(map(str, draw_of(values)[:6]))]
         return [*words, *(self.value(name) for name in ("banks", "regions", "lines", "seed", "line")), str(self.parts), to]
 
 
+class Piece(NamedTuple):
+    """A piece of a trace that is split by itself: its number, and the bytes from which and up to which it goes."""
+
+    number: int
+    begin: int
+    end: int
+
+
+@dataclass
+class Told:
+    """What the pass told that split a trace, or a piece of it: how many rows have a number, and of each part how many; of a piece that has
+    rows the first tick and the last one, and whether the last row is a cut."""
+
+    rows: int = 0
+    counts: List[int] = field(default_factory=list)
+    ticks: Optional[Tuple[int, int, bool]] = None
+
+    @staticmethod
+    def read(text: str) -> "Told":
+        """By its text."""
+        told = Told()
+        for word, *numbers in (line.split() for line in text.splitlines()):
+            if word == "part":
+                told.counts.append(int(numbers[1]))
+            elif word == "ticks":
+                told.ticks = int(numbers[0]), int(numbers[1]), numbers[2] == "1"
+            else:
+                told.rows = int(numbers[0])
+        return told
+
+
 @dataclass
 class Split:
-    """What a trace was split into: its rows with a number, those of each part, and the bytes of each part's trace."""
+    """What a trace was split into: its rows with a number, those of each part, and the bytes of each part's pieces."""
 
     rows: int
     counts: List[int]
-    sizes: List[int]
-
-    @staticmethod
-    def read(said: str, sizes: List[int]) -> "Split":
-        """By what the pass says."""
-        lines = [line.split() for line in said.splitlines()]
-        return Split(int(lines[-1][1]), [int(line[2]) for line in lines[:-1]], sizes)
+    sizes: List[List[int]]
 
 
 class Folder:
-    """Where the parts of a run stand: `asked`, `split`, and of part K `trace.K`, `index.K`, `told.K` and `done.K`, which says that `told.K` is
-    whole. Each is there whole or not at all, but for what a process that was killed left behind, which the next call takes away."""
+    """Where the parts of a run stand: `asked`, `split`, and of part K the pieces `trace.K.P` and `index.K.P`, `told.K` and `done.K`, which
+    says that `told.K` is whole. Each is there whole or not at all, but for what a process that was killed left behind, which the next call takes away."""
 
     def __init__(self, path: "str | os.PathLike[str]") -> None:
         self.path = pathlib.Path(path)
@@ -112,6 +139,14 @@ class Folder:
     def name(self, kind: str, part: int) -> pathlib.Path:
         """A part's file."""
         return self.path / f"{kind}.{part}"
+
+    def piece(self, kind: str, part: int, piece: int) -> pathlib.Path:
+        """A piece of a part's trace or index."""
+        return self.path / f"{kind}.{part}.{piece}"
+
+    def sizes(self, part: int, pieces: int) -> List[Optional[int]]:
+        """The bytes of a part's pieces; None of one that isn't there."""
+        return [_size(self.piece("trace", part, piece)) for piece in range(pieces)]
 
     # (the locks go with the process that holds them, however it ends)
 
@@ -158,10 +193,8 @@ class Folder:
         if found is None:
             return None
         split = Split(**found)
-        for part, size in enumerate(split.sizes):
-            if self.status(part) is None and _size(self.name("trace", part)) != size:
-                return None
-        return split
+        is_there = (self.status(part) is not None or self.sizes(part, len(sizes)) == sizes for part, sizes in enumerate(split.sizes))
+        return split if all(is_there) else None
 
     def was_split(self) -> Optional[Split]:
         """How it was split, whether its parts are still there or not."""

@@ -12,6 +12,7 @@ b mod P = K, all cuts, and all that settles.
   --folder FOLDER  the parts stay there: the same call makes only what is missing there, after a failure, too, and prints all
   --split          with --folder: the trace is split, and no more
   --part K         with --folder: part K is played, unless it was, and no more; --split was called before
+  --pieces N       with --folder: a file is split in so many pieces side by side (as many as jobs, of 64 MiB at least)
   --missing        with --folder: prints the parts that aren't played, with commas
   --python         the passes over rows in Python, also where there is a C compiler
   --progress       standard error tells how far it is, also where that isn't a terminal
@@ -43,8 +44,10 @@ from .progress import Progress
 from .tables import answered
 from .words import COMMANDS, wrong_word
 
-_VALUES = ("jobs", "parts", "order", "folder", "part")
+_VALUES = ("jobs", "parts", "order", "folder", "part", "pieces")
 _FLAGS = ("split", "missing", "python", "progress")
+# A piece of a trace that is split by itself has so many bytes at least.
+_LEAST_PIECE = 1 << 26
 # What isn't played in parts, and why.
 _WHOLE = {
     ("print", "snapshots"): "snapshots are due by the numbers of rows of the whole trace, which no part knows; a look, tick,L,,, is joined",
@@ -102,9 +105,10 @@ def read_words(words: Sequence[str]) -> Given:
         raise UsageError(2, f"--order {given.values['order']}: it may be number or stream")
     if "order" in given.values and given.options.get("print", "rows") != "rows":
         raise UsageError(2, "--order belongs to --print rows alone")
-    of_folder = [f"--{name}" for name in ("split", "part", "missing") if name in given.flags or name in given.values]
+    of_folder = [f"--{name}" for name in ("split", "part", "missing", "pieces") if name in given.flags or name in given.values]
     if of_folder and "folder" not in given.values:
         raise UsageError(2, f"{of_folder[0]} wants --folder")
+    of_folder = [name for name in of_folder if name != "--pieces"]
     if len(of_folder) > 1:
         raise UsageError(2, f"{of_folder[0]} and {of_folder[1]} are two things to do")
     return given
@@ -211,21 +215,25 @@ class _Call:
 
     def split(self, folder: Folder, asked: Asked) -> Split:
         """Splits the trace into a folder, unless it is there."""
-        return folder.split() or self.split_by(
-            asked, lambda source, passing: split_to_files(folder, asked, source, passing, self.tell_reading(source))
-        )
+        def work(source: int, passing: List[str]) -> Split:
+            pieces = 1
+            if not asked.is_drawn and _is_file(source) and os.lseek(source, 0, os.SEEK_CUR) == 0:
+                pieces = self.given.number("pieces", 1, 64) or max(1, min(self.jobs, 64, os.fstat(source).st_size // _LEAST_PIECE))
+            return split_to_files(folder, asked, source, passing, self.tell_reading(source), pieces)
+
+        return folder.split() or self.split_by(asked, work)
 
     def play(self, folder: Folder, asked: Asked, split: Split, parts: Sequence[int]) -> None:
         """Plays these parts."""
         for part in parts:
-            if folder.name("trace", part).stat().st_size != split.sizes[part]:
+            if folder.sizes(part, len(split.sizes[part])) != split.sizes[part]:
                 raise Broken(4, f"{folder.name('trace', part)} isn't as it was split: call without --part, with the trace, to split it again")
-        whole = max(1, sum(split.sizes[part] for part in parts))
+        whole = max(1, sum(sum(split.sizes[part]) for part in parts))
 
         def tell(done: int, read: int) -> None:
             self.progress.tell(lambda: f"{done} of {len(parts)} parts played, {100 * read / whole:.0f}%")
 
-        play_from_files(folder, asked, parts, self.jobs, self.words(), tell)
+        play_from_files(folder, asked, split, parts, self.jobs, self.words(), tell)
 
     def play_at_once(self, folder: Folder, asked: Asked) -> Split:
         """Plays all parts while the trace is split."""

@@ -1,13 +1,16 @@
 /* The passes of `python3 -m pcm parts` in C; partwise.py has the same in Python, byte for byte.
 
-   parts split [--off] [--index PREFIX] [--drawn SEED,ROWS,PERCENT,CUTS,STEP,HOT] BANKS REGIONS LINES SEED SIZE PARTS PREFIX|FD,FD,.. < TRACE
-       Part K, in the file PREFIXK or to a descriptor, gets the rows of lines of banks b with b mod PARTS = K, all cuts and all that settles.
+   parts split [--off] [--index PREFIX] [--piece P FROM UNTIL | --drawn SEED,ROWS,PERCENT,CUTS,STEP,HOT]
+           BANKS REGIONS LINES SEED SIZE PARTS PREFIX|FD,FD,.. < TRACE
+       Part K, in the file PREFIXK.0 or to a descriptor, gets the rows of lines of banks b with b mod PARTS = K, all cuts and all that settles.
        --off adds a cut where one stream with --end off does. --index writes for each of a part's rows where it stands in the whole trace, and
        what it asks, in 16 bytes: number + ticks << 9 | bank << 3 | kind, line, rows since the part's row before, the lowest byte first.
-       It prints `part K ROWS` for each, and `rows ROWS`: those that have a number. Status 3: the line `trace row N: KIND` says which row is
+       It prints `part K ROWS` for each, and `rows ROWS`: those that have a number. --piece splits the bytes FROM to UNTIL of a file, which
+       begin with a row unless FROM is 0, into PREFIXK.P, and prints `ticks FIRST LAST CUT`, too, where it has a row: whether the last one is
+       a cut. The pieces of a part, one behind the other, are its rows, and so are those of its index. Status 3: the line `trace row N: KIND` says which row is
        faulty, as a stream says it, or `trace row N: until`, since a settle until isn't split. Status 9: the trace isn't of the plain form
        that is read fast (quotes, empty lines, a mark, CR alone).
-   parts place [--by-number] PARTS PART INDEX < ROWS
+   parts place [--by-number] PARTS PART INDEX .. < ROWS
        What the stream of a part told, with the numbers of the whole trace, and a key in front: where one stream tells it, in 18 digits.
    parts keep PARTS PART < REPORT
        The rows of a report, as one on array lines, of the part's banks, with the first number of each as its key.
@@ -117,6 +120,7 @@ struct lines {
     const char *name;
     char *text;
     size_t from, until, room;
+    uint64_t left; /* (bytes that may be read) */
 };
 
 static void open_lines(struct lines *lines, int fd, const char *name)
@@ -131,6 +135,7 @@ static void open_lines(struct lines *lines, int fd, const char *name)
         leave(7, "out of memory");
     lines->ended = 0;
     lines->from = lines->until = 0;
+    lines->left = UINT64_MAX;
 }
 
 /* The next line with its end, and its length; NULL where there is none. A last line without an end gets one. */
@@ -157,7 +162,8 @@ static char *next_line(struct lines *lines, size_t *length)
             if (!lines->text)
                 leave(7, "out of memory");
         }
-        ssize_t got = read(lines->fd, lines->text + lines->until, lines->room - lines->until);
+        size_t most = lines->room - lines->until;
+        ssize_t got = read(lines->fd, lines->text + lines->until, most < lines->left ? most : (size_t)lines->left);
         if (got < 0 && errno == EINTR)
             continue;
         if (got < 0)
@@ -167,6 +173,7 @@ static char *next_line(struct lines *lines, size_t *length)
             if (lines->until)
                 lines->text[lines->until++] = '\n';
         }
+        lines->left -= (uint64_t)got;
         lines->until += (size_t)got;
     }
 }
@@ -206,9 +213,10 @@ static inline uint64_t placed(uint64_t line)
 
 /* Splitting. */
 static struct {
-    uint64_t lines, lines_of_bank, parts, rows, tick, count[PARTS], noted[PARTS];
+    uint64_t lines, lines_of_bank, parts, rows, first, tick, count[PARTS], noted[PARTS];
+    uint64_t piece, from, until;
     size_t digits, size;
-    int has_index, came, ends_in_cut;
+    int has_index, is_piece, came, ends_in_cut;
     struct sink *out[PARTS], *index[PARTS];
 } whole;
 
@@ -231,25 +239,35 @@ static void put_number(struct sink *sink, uint64_t value, int bytes)
     put(sink, text, (size_t)bytes);
 }
 
-static void note(uint64_t part, enum kind kind, uint64_t bank, uint64_t line)
+static void put_record(struct sink *index, uint64_t first, uint64_t line, uint64_t passed)
 {
-    struct sink *index = whole.index[part];
-    uint64_t passed = whole.rows - whole.noted[part];
-    for (; passed > UINT32_MAX; passed -= UINT32_MAX) {
-        put_number(index, PASSED, 8);
-        put_number(index, 0, 4);
-        put_number(index, UINT32_MAX, 4);
-    }
-    put_number(index, whole.tick << 9 | bank << 3 | (uint64_t)kind, 8);
+    put_number(index, first, 8);
     put_number(index, line, 4);
     put_number(index, passed, 4);
+}
+
+/* Notes that rows passed, but for so few that a record has room for them; answers how many these are. */
+static uint64_t note_passed(uint64_t part, uint64_t room)
+{
+    uint64_t passed = whole.rows - whole.noted[part];
+    for (; passed > room; passed -= passed < UINT32_MAX ? passed : UINT32_MAX)
+        put_record(whole.index[part], PASSED, 0, passed < UINT32_MAX ? passed : UINT32_MAX);
     whole.noted[part] = whole.rows;
+    return passed;
+}
+
+static void note(uint64_t part, enum kind kind, uint64_t bank, uint64_t line)
+{
+    uint64_t passed = note_passed(part, UINT32_MAX);
+    put_record(whole.index[part], whole.tick << 9 | bank << 3 | (uint64_t)kind, line, passed);
 }
 
 /* A row of a line goes to the part of its bank. */
 static inline struct sink *part_of_line(enum kind kind, uint64_t line)
 {
     uint64_t bank = placed(line) / whole.lines_of_bank, part = bank % whole.parts;
+    if (!whole.came)
+        whole.first = whole.tick;
     whole.came = 1;
     whole.rows++;
     whole.count[part]++;
@@ -260,6 +278,8 @@ static inline struct sink *part_of_line(enum kind kind, uint64_t line)
 
 static void to_all(enum kind kind, const char *row, size_t length)
 {
+    if (!whole.came)
+        whole.first = whole.tick;
     whole.came = 1;
     whole.rows += kind == CUT;
     for (uint64_t part = 0; part < whole.parts; part++) {
@@ -361,12 +381,10 @@ static void split_row(char *row, size_t length)
     put(part_of_line(*op == 'R' ? READ : WRITE, line), row, length);
 }
 
-static void split_trace(void)
+static void split_header(struct lines *trace)
 {
-    struct lines trace;
     size_t length;
-    open_lines(&trace, 0, "standard input");
-    char *row = next_line(&trace, &length);
+    char *row = next_line(trace, &length);
     if (row && (!memcmp(row, "\xef\xbb\xbf", length < 3 ? length : 3) || memchr(row, '"', length) || *row == '\n' || *row == '\r'))
         plain_only();
     if (row && length > 1 && row[length - 2] == '\r')
@@ -376,7 +394,21 @@ static void split_trace(void)
             plain_only();
         leave(3, "trace row 0: header");
     }
-    while ((row = next_line(&trace, &length)))
+}
+
+static void split_trace(void)
+{
+    struct lines trace;
+    size_t length;
+    open_lines(&trace, 0, "standard input");
+    if (whole.is_piece) {
+        if (lseek(0, (off_t)whole.from, SEEK_SET) < 0)
+            leave_file(4, "standard input");
+        trace.left = whole.until - whole.from;
+    }
+    if (whole.from == 0)
+        split_header(&trace);
+    for (char *row; (row = next_line(&trace, &length));)
         split_row(row, length);
 }
 
@@ -440,11 +472,11 @@ static void split_drawn(const char *numbers)
 /* The name of a part's file. */
 static char *name_of(const char *prefix, uint64_t part)
 {
-    size_t room = strlen(prefix) + 4;
+    size_t room = strlen(prefix) + 48;
     char *name = malloc(room);
     if (!name)
         leave(7, "out of memory");
-    snprintf(name, room, "%s%" PRIu64, prefix, part);
+    snprintf(name, room, "%s%" PRIu64 ".%" PRIu64, prefix, part, whole.piece);
     return name;
 }
 
@@ -458,21 +490,27 @@ static void open_parts(char *to, const char *index)
         at += are_open && *at == ',';
         if (index)
             whole.out[part]->before = whole.index[part] = opened(-1, name_of(index, part));
-        put(whole.out[part], HEADER, sizeof HEADER - 1);
+        if (whole.from == 0)
+            put(whole.out[part], HEADER, sizeof HEADER - 1);
     }
 }
 
 /* No part ends before all that is known of its rows is there. */
 static void close_parts(void)
 {
-    for (uint64_t part = 0; part < whole.parts; part++)
+    for (uint64_t part = 0; part < whole.parts; part++) {
+        if (whole.has_index)
+            note_passed(part, 0);
         flush(whole.out[part]);
+    }
     for (uint64_t part = 0; part < whole.parts; part++) {
         finish(whole.out[part]);
         if (whole.has_index)
             finish(whole.index[part]);
         printf("part %" PRIu64 " %" PRIu64 "\n", part, whole.count[part]);
     }
+    if (whole.is_piece && whole.came)
+        printf("ticks %" PRIu64 " %" PRIu64 " %d\n", whole.first, whole.tick, whole.ends_in_cut);
     printf("rows %" PRIu64 "\n", whole.rows);
 }
 
@@ -487,10 +525,16 @@ static int split(int count, char **words)
             index = *++words, count--;
         else if (!strcmp(*words, "--drawn") && count > 1)
             drawn = *++words, count--;
-        else
+        else if (!strcmp(*words, "--piece") && count > 3) {
+            whole.is_piece = 1;
+            whole.piece = word_as_number(*++words);
+            whole.from = word_as_number(*++words);
+            whole.until = word_as_number(*++words);
+            count -= 3;
+        } else
             return 2;
     }
-    if (count != 7)
+    if (count != 7 || whole.from > whole.until)
         return 2;
     whole.lines_of_bank = word_as_number(words[1]) * word_as_number(words[2]);
     whole.lines = word_as_number(words[0]) * whole.lines_of_bank;
@@ -572,14 +616,22 @@ static void take_pending(struct pending *one)
 
 /* Where the reader of a part's index stands. */
 static struct {
-    int fd, ended;
-    const char *name;
+    int fd, ended, left; /* (files behind the one that is read) */
+    char **names;
     size_t from, until;
     unsigned char bytes[PIECE];
     enum kind kind;
     uint64_t tick, number, row, settles;
     uint32_t bank, line;
 } at;
+
+static void open_index(char **names)
+{
+    at.names = names;
+    at.fd = open(*names, O_RDONLY);
+    if (at.fd < 0)
+        leave_file(4, *names);
+}
 
 /* The next of the part's rows; none is left where it has ended. What isn't written yet is of rows of which nothing is told yet. */
 static void step(void)
@@ -591,7 +643,13 @@ static void step(void)
             at.from = 0;
             ssize_t got = read(at.fd, at.bytes + at.until, PIECE - at.until);
             if (got < 0 && errno != EINTR)
-                leave_file(4, at.name);
+                leave_file(4, *at.names);
+            if (got == 0 && at.left) {
+                at.left--;
+                close(at.fd);
+                open_index(at.names + 1);
+                continue;
+            }
             if (got == 0) {
                 at.ended = 1;
                 return;
@@ -761,14 +819,12 @@ static int place(int count, char **words)
 {
     if (count && !strcmp(*words, "--by-number"))
         by_number = 1, count--, words++;
-    if (count != 3)
+    if (count < 3)
         return 2;
     parts = word_as_number(words[0]);
     part = word_as_number(words[1]);
-    at.name = words[2];
-    at.fd = open(words[2], O_RDONLY);
-    if (at.fd < 0)
-        leave_file(4, words[2]);
+    at.left = count - 3;
+    open_index(words + 2);
     at.kind = PASSED;
     make_table(1 << 12);
     struct lines told;

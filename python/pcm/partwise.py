@@ -27,7 +27,8 @@ KEY = 18
 # What a row is in an index, and one whose place is only counted on.
 READ, WRITE, CUT, SETTLE, PASSED = 0, 1, 2, 3, 7
 _KINDS = {"R": READ, "W": WRITE, "M": WRITE, "C": CUT, "S": SETTLE, "Q": SETTLE, "L": SETTLE}
-_RECORD = struct.Struct("<QII")
+# A row of an index: ticks, bank and kind; line; rows that passed.
+RECORD = struct.Struct("<QII")
 _MOST_PASSED = 0xFFFFFFFF
 _MOST = (1 << 64) - 1
 _LAST = "f" * 16
@@ -61,20 +62,23 @@ class _Splitter:
         self.lines = asked.banks * self._lines_of_bank
         self.size = asked.size
         self._place = Randomiser(self.lines, asked.seed).place
-        outs = [int(fd) for fd in asked.to.split(",")] if asked.to[:1].isdigit() else [f"{asked.to}{part}" for part in range(asked.parts)]
+        piece, is_first = (asked.piece[0], asked.piece[1] == 0) if asked.piece else (0, True)
+        names = [f"{asked.to}{part}.{piece}" for part in range(asked.parts)]
+        outs = [int(fd) for fd in asked.to.split(",")] if asked.to[:1].isdigit() else names
         # (an index is at the bottom: no part has a row of which nothing is known)
         self._parts = [
-            _Part(open(out, "wb"), open(f"{asked.index}{part}", "wb") if asked.index else None) for part, out in enumerate(outs)
+            _Part(open(out, "wb"), open(f"{asked.index}{part}.{piece}", "wb") if asked.index else None) for part, out in enumerate(outs)
         ]
-        self.rows, self.tick, self.came, self.ends_in_cut = 0, 0, False, False
-        self._counts, self._noted = [0] * asked.parts, [0] * asked.parts
-        for part in self._parts:
+        self.rows, self.tick, self.first, self.ends_in_cut = 0, 0, None, False
+        self._counts, self._noted, self._is_piece = [0] * asked.parts, [0] * asked.parts, asked.piece is not None
+        for part in self._parts if is_first else ():
             part.rows.write(HEADER.encode())
 
     def take(self, op: str, tick: int, line: int, row: bytes) -> None:
         """Takes the next row."""
         kind = _KINDS[op]
-        self.came, self.tick, self.ends_in_cut = True, tick, kind == CUT
+        self.first = tick if self.first is None else self.first
+        self.tick, self.ends_in_cut = tick, kind == CUT
         self.rows += kind != SETTLE
         if kind in (CUT, SETTLE):
             bank, to = 0, range(len(self._parts))
@@ -90,23 +94,29 @@ class _Splitter:
         index = self._parts[part].index
         if index is None:
             return
-        passed = self.rows - self._noted[part]
-        while passed > _MOST_PASSED:
-            index.write(_RECORD.pack(PASSED, 0, _MOST_PASSED))
-            passed -= _MOST_PASSED
-        index.write(_RECORD.pack(first, line, passed))
+        index.write(RECORD.pack(first, line, self._note_passed(index, part, _MOST_PASSED)))
         index.flush()
+
+    def _note_passed(self, index: BinaryIO, part: int, room: int) -> int:
+        """Notes that rows passed, but for so few that a record has room for them; answers how many these are."""
+        passed = self.rows - self._noted[part]
+        while passed > room:
+            index.write(RECORD.pack(PASSED, 0, min(passed, _MOST_PASSED)))
+            passed -= min(passed, _MOST_PASSED)
         self._noted[part] = self.rows
+        return passed
 
     def end(self) -> str:
         """Closes all files; what is told of them."""
-        for part in self._parts:
+        for number, part in enumerate(self._parts):
+            if part.index:
+                self._note_passed(part.index, number, 0)
+                part.index.close()
             part.rows.flush()
         for part in self._parts:
             part.rows.close()
-            if part.index:
-                part.index.close()
-        return "".join(f"part {part} {count}\n" for part, count in enumerate(self._counts)) + f"rows {self.rows}\n"
+        ticks = f"ticks {self.first} {self.tick} {int(self.ends_in_cut)}\n" if self._is_piece and self.first is not None else ""
+        return "".join(f"part {part} {count}\n" for part, count in enumerate(self._counts)) + f"{ticks}rows {self.rows}\n"
 
 
 def _split(words: Sequence[str]) -> None:
@@ -114,6 +124,7 @@ def _split(words: Sequence[str]) -> None:
     parser.add_argument("--off", action="store_true")
     parser.add_argument("--index")
     parser.add_argument("--drawn")
+    parser.add_argument("--piece", type=int, nargs=3)
     for name in ("banks", "regions", "lines", "seed", "size", "parts"):
         parser.add_argument(name, type=int)
     parser.add_argument("to")
@@ -126,16 +137,16 @@ def _split(words: Sequence[str]) -> None:
             op, line = text.split(",", 3)[1:3]
             splitter.take(op, row.tick, int(line or 0), text.encode())
     else:
-        _split_trace(splitter)
-    if asked.off and splitter.came and not splitter.ends_in_cut:
+        _split_trace(splitter, asked.piece)
+    if asked.off and splitter.first is not None and not splitter.ends_in_cut:
         splitter.take("C", splitter.tick, 0, f"{splitter.tick},C,,\n".encode())
     sys.stdout.write(splitter.end())
 
 
-def _split_trace(splitter: _Splitter) -> None:
+def _split_trace(splitter: _Splitter, piece: Optional[Sequence[int]]) -> None:
     shape = splitter.lines, splitter.size, True
-    records = _records()
-    if ",".join(next(records, [])) + "\n" != HEADER:
+    records = _records(piece)
+    if not (piece and piece[1]) and ",".join(next(records, [])) + "\n" != HEADER:
         raise PassFault(3, "trace row 0: header")
     for record in records:
         kind = fault_kind(record, splitter.tick, shape, splitter.rows + 1)
@@ -147,10 +158,14 @@ def _split_trace(splitter: _Splitter) -> None:
         splitter.take(op, int(tick), int(arg or 0), (",".join(record) + "\n").encode("latin-1"))
 
 
-def _records() -> Iterator[List[str]]:
-    """The records of the trace on standard input."""
+def _records(piece: Optional[Sequence[int]]) -> Iterator[List[str]]:
+    """The records of the trace on standard input, or of a piece of it."""
     csv.field_size_limit(2**31 - 1)
-    text = io.TextIOWrapper(sys.stdin.buffer, encoding="latin-1", newline="")
+    source = sys.stdin.buffer
+    if piece:
+        source.seek(piece[1])
+        source = io.BytesIO(source.read(piece[2] - piece[1]))
+    text = io.TextIOWrapper(source, encoding="latin-1", newline="")
     first = text.readline().removeprefix("\xef\xbb\xbf")
     try:
         yield from (record for record in csv.reader(_behind(first, text)) if record)
@@ -177,8 +192,9 @@ class _Row(NamedTuple):
 class _Index:
     """Where a part's rows stand in the whole trace, read one by one."""
 
-    def __init__(self, file: BinaryIO) -> None:
-        self._file = file
+    def __init__(self, names: Sequence[str]) -> None:
+        self._names = list(names)
+        self._file: Optional[BinaryIO] = None
         self.kind, self.bank, self.line, self.tick = PASSED, 0, 0, 0
         # (of the part's last row its number there and in the whole trace; how often all settled)
         self.number, self.row, self.settles = 0, 0, 0
@@ -188,11 +204,11 @@ class _Index:
     def step(self) -> None:
         """Goes to the part's next row."""
         while True:
-            record = self._file.read(_RECORD.size)
-            if len(record) < _RECORD.size:
+            record = self._record()
+            if len(record) < RECORD.size:
                 self.has_ended = True
                 return
-            first, self.line, passed = _RECORD.unpack(record)
+            first, self.line, passed = RECORD.unpack(record)
             self.row += passed
             self.kind, self.bank, self.tick = first & 7, first >> 3 & 63, first >> 9
             if self.kind == PASSED:
@@ -203,6 +219,15 @@ class _Index:
             self.number += 1
             self.pending[self.number] = _Row(self.row, self.line, self.bank)
             return
+
+    def _record(self) -> bytes:
+        while True:
+            record = self._file.read(RECORD.size) if self._file else b""
+            if record or not self._names:
+                return record
+            if self._file:
+                self._file.close()
+            self._file = open(self._names.pop(0), "rb")
 
     @property
     def place(self) -> int:
@@ -287,17 +312,15 @@ class _Placer:
 
 def _place(words: Sequence[str]) -> None:
     by_number = words[:1] == ["--by-number"]
-    parts, part, name = words[by_number:]
-    out = sys.stdout.buffer
-    with open(name, "rb") as file:
-        lines = sys.stdin.buffer
-        if lines.readline() != TOLD.encode() + b"\n":
-            raise _not_of_the_part()
-        if part == "0":
-            out.write(f"{0:018x}{TOLD}\n".encode())
-        placer = _Placer(int(parts), int(part), by_number, _Index(file))
-        for line in lines:
-            out.write(placer.placed(line))
+    parts, part, *names = words[by_number:]
+    lines, out = sys.stdin.buffer, sys.stdout.buffer
+    if lines.readline() != TOLD.encode() + b"\n":
+        raise _not_of_the_part()
+    if part == "0":
+        out.write(f"{0:018x}{TOLD}\n".encode())
+    placer = _Placer(int(parts), int(part), by_number, _Index(names))
+    for line in lines:
+        out.write(placer.placed(line))
 
 
 # Reports, and all parts together.

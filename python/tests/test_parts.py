@@ -30,8 +30,9 @@ DATA = "ab" * 64
 
 
 def called(words, given=b""):
-    """The status of a process, what it prints and what it says."""
-    done = subprocess.run(words, input=given, stdout=subprocess.PIPE, stderr=subprocess.PIPE, check=False)
+    """The status of a process over bytes or a file, what it prints and what it says."""
+    how = {"input": given} if isinstance(given, bytes) else {"stdin": given}
+    done = subprocess.run(words, **how, stdout=subprocess.PIPE, stderr=subprocess.PIPE, check=False)
     return done.returncode, done.stdout, done.stderr.decode()
 
 
@@ -184,12 +185,16 @@ class Passes(Room):
         rows = [f"{at},M,{at},{'..' * 63}0A\r\n{at},W,{at},{DATA}\n{at},S,,\n{at},R,00{at},\n" for at in range(100)]
         trace = (HEADER + "".join(rows) + "200,C,,\n200,Q,,").encode()
         drawn = ["--drawn", "7,500,50,9,30,5"]
-        for words, given in (([], trace), (["--off"], trace), (drawn, b""), (["--off", *drawn], b""), ([], HEADER.encode())):
+        pieces = [["--piece", "2", str(begin), str(end)] for begin, end in ((0, 17), (17, trace.index(b"50,M")), (trace.index(b"50,M"), len(trace)))]
+        cases = [([], trace), (["--off"], trace), (drawn, b""), (["--off", *drawn], b""), ([], HEADER.encode()), *((it, trace) for it in pieces)]
+        for words, given in cases:
             found = []
             for at, one in enumerate(self.both):
                 (self.room / str(at)).mkdir(exist_ok=True)
                 to = f"{self.room}/{at}/"
-                told = called([*one, "split", *words, "--index", f"{to}index.", *NUMBERS, "5", f"{to}trace."], given)
+                source = self.file("given", given)
+                with open(source, "rb") as file:
+                    told = called([*one, "split", *words, "--index", f"{to}index.", *NUMBERS, "5", f"{to}trace."], file)
                 self.assertEqual((0, ""), (told[0], told[2]))
                 found.append((told, {it.name: it.read_bytes() for it in (self.room / str(at)).iterdir()}))
             self.assertEqual(*found)
@@ -201,10 +206,12 @@ class Passes(Room):
             "5,R,128,", "5,R,,", "5,R,x,", "5,R,000003,", "5,R,3,00", "5,W,3,", f"5,W,3,{DATA}0", f"5,W,3,{DATA[1:]}g", f"5,M,3,{'.' * 128}",
             f"5,M,3,{'.0' * 64}", "5,C,1,", "5,C,,1", "5,S,1,", "5,Q,,1", "5,L,1,1", "5", "-5,R,3,", "5,R,-3,", "5 ,R,3,", "5,r,3,",
         ]
-        for text in [*(HEADER + good + fault for fault in faults), "", "tick,op,arg\n", "tick,op,arg,data,\n", f"x{HEADER}", good]:
+        texts = [*(HEADER + good + fault for fault in faults), "", "tick,op,arg\n", "tick,op,arg,data,\n", f"x{HEADER}", good]
+        for number, text in enumerate(texts):
             wanted = stream(*SHAPE, given=text.encode())
             self.assertEqual(3, wanted[0], text)
-            for one in self.both:
+            # (each is slow in Python)
+            for one in self.both if number % 3 == 0 else self.both[:1]:
                 found = called([*one, "split", *NUMBERS, "2", f"{self.room}/trace."], text.encode())
                 self.assertEqual((3, wanted[2]), (found[0], found[2]), (text, one[-1]))
 
@@ -245,7 +252,7 @@ class Passes(Room):
                 missing = str(self.room / "none")
                 self.assertEqual((4, f"{missing}: No such file or directory\n"), called([*one, "merge", "1", "0", missing])[::2])
                 found = called([*one, "split", *NUMBERS, "2", f"{self.room}/none/trace."], HEADER.encode())
-                self.assertEqual(f"{self.room}/none/trace.0: No such file or directory\n", found[2])
+                self.assertEqual(f"{self.room}/none/trace.0.0: No such file or directory\n", found[2])
                 self.assertIn(found[0], (4, 5))
                 file = self.file("one", f"{0:018x}{'x' * 200000}\n")
                 with open("/dev/full", "wb") as full:
@@ -344,6 +351,30 @@ class Folders(Room):
         self.assertEqual(self.wanted, parts("--folder", self.folder, PCM=program))
         self.assertEqual(0, self.calls())
 
+    def test_pieces_side_by_side(self):
+        for pieces, more in ((2, []), (3, ["--python"]), (64, ["--end", "off"])):
+            wanted = stream(*SHAPE, *(more if "--end" in more else ()), given=self.trace.read_bytes())
+            folder = self.room / str(pieces)
+            self.assertEqual(wanted, parts("--folder", folder, "--pieces", pieces, *more, *SHAPE, self.trace))
+            self.assertTrue((folder / f"trace.7.{pieces - 1}").exists())
+            self.assertEqual(wanted, parts("--folder", folder))
+        few = self.file("few", HEADER + "1,R,3,\n")
+        self.assertEqual(stream(*SHAPE, given=few.read_bytes()), parts("--folder", self.room / "rows", "--pieces", 64, *SHAPE, few))
+
+    def test_faults_in_pieces(self):
+        rows = [f"{at},R,{at},\n" for at in range(100)]
+        for at, row, kind in ((7, "x,R,3,\n", "tick"), (50, "3,R,3,\n", "order"), (99, "200,R,3,0\n", "payload")):
+            text = HEADER + "".join([*rows[:at], row, *rows[at + 1:]])
+            wanted = stream(*SHAPE, given=text.encode())
+            self.assertEqual((3, f"trace row {at + 1}: {kind}\n"), wanted[::2])
+            for pieces in (1, 2, 5, 64):
+                status, out, said = parts("--folder", self.room / f"{at}-{pieces}", "--pieces", pieces, *SHAPE, self.file("faulty", text))
+                self.assertEqual((3, b""), (status, out))
+                self.assertIn(f"(trace row {at + 1}: {kind})", said)
+        quoted = self.file("quoted", (HEADER + "".join(rows)).replace("70,R,70,", '"70",R,70,'))
+        wanted = stream(*SHAPE, given=quoted.read_bytes())
+        self.assertEqual(wanted, parts("--folder", self.room / "quotes", "--pieces", 4, *SHAPE, quoted))
+
     def test_parts_one_by_one(self):
         self.assertEqual((0, b"", ""), parts("--split", *self.words))
         self.assertEqual((0, b"0,1,2,3,4,5,6,7\n", ""), parts("--folder", self.folder, "--missing"))
@@ -381,7 +412,7 @@ class Folders(Room):
         self.assertEqual((0, b"3\n", ""), parts("--folder", self.folder, "--missing"))
         self.assertEqual(self.wanted, parts("--folder", self.folder))
         os.truncate(self.folder / "told.5", 100)
-        os.truncate(self.folder / "trace.5", 100)
+        os.truncate(self.folder / "trace.5.0", 100)
         line = f"{self.folder}/trace.5 isn't as it was split: call without --part, with the trace, to split it again"
         self.refused(4, line, "--folder", self.folder, "--part", 5)
         program = self.standing()
@@ -418,7 +449,7 @@ class Folders(Room):
         words = ["--folder", self.folder, *SHAPE]
         self.assertEqual(self.wanted, parts(*words, given=self.trace.read_bytes()))
         os.truncate(self.folder / "told.0", 1)
-        os.truncate(self.folder / "trace.0", 1)
+        os.truncate(self.folder / "trace.0.0", 1)
         other = f"{HEADER}1,R,3,\n".encode()
         self.refused(3, f"{self.folder} has parts of another trace: name another folder", *words, given=other)
         self.assertEqual(self.wanted, parts(*words, given=self.trace.read_bytes()))
