@@ -5,7 +5,8 @@
     share/pcm/                  docs/USING.md and VERSION, from which the wrapper prints; python/pcm, and a link to the wrapper for it
     share/man/man1/             pcm.1, pcm-stream.1 and pcm-explain.1
     share/bash-completion/completions/pcm, share/zsh/site-functions/_pcm
-    include/pcm_stream.h        for drivers in C and C++"""
+    include/pcm_stream.h ..     for drivers in C and C++, and for SystemC
+    share/pcm/sv/               for SystemVerilog"""
 import pathlib
 import shutil
 
@@ -35,6 +36,8 @@ def files():
     yield "share/zsh/site-functions/_pcm", pages.zsh().encode(), False
     for it in sorted((TOP / "c").glob("*.h")):
         yield f"include/{it.name}", it, False
+    for name in ("pcm_dpi.sv", "pcm_dpi.c", "pcm_mem.sv"):
+        yield f"share/pcm/sv/{name}", TOP / "sv" / name, False
 
 
 # The package looks for the wrapper where a checkout has it.
