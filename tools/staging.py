@@ -36,8 +36,8 @@ def files():
     yield "share/zsh/site-functions/_pcm", pages.zsh().encode(), False
     for it in sorted((TOP / "c").glob("*.h")):
         yield f"include/{it.name}", it, False
-    for name in ("pcm_dpi.sv", "pcm_dpi.c", "pcm_mem.sv"):
-        yield f"share/pcm/sv/{name}", TOP / "sv" / name, False
+    for it in sorted((TOP / "sv").glob("pcm_*")):
+        yield f"share/pcm/sv/{it.name}", it, False
 
 
 # The package looks for the wrapper where a checkout has it.
