@@ -58,6 +58,8 @@ extern "C" {
 #define PCM_MOST_ROW 512
 /* So many bytes of answers are held for the caller at least, before PCM_FULL comes. */
 #define PCM_MOST_WAITING 64512
+/* So many bytes pcm_close takes at most without pcm_finish: more than the answers of all that may wait then, in 64 banks and in the pipes. */
+#define PCM_MOST_LEFT (1 << 26)
 /* The last tick, and the last row's number. */
 #define PCM_LAST_TICK (UINT64_C(1) << 40)
 #define PCM_LAST_ROW UINT32_C(4294967294)
@@ -107,6 +109,9 @@ struct pcm_wear {
     uint64_t reset;    /* cells that pulses drove to 0 */
 };
 
+/* The number of no bank. */
+#define PCM_NO_BANK UINT32_MAX
+
 /* What a module is, where the program tells it (`--tell shape`); all 0 until then. */
 struct pcm_shape {
     uint32_t version;     /* of the stream's format: 1 */
@@ -117,6 +122,12 @@ struct pcm_shape {
     uint32_t line;        /* the bytes of a line */
     uint32_t write_queue; /* the writes that a bank's queue holds */
     uint32_t read_queue;  /* the reads that may wait at a bank */
+};
+
+/* What spreads lines over the banks (FORMATS.md, 'The randomiser's words'). */
+struct pcm_randomiser {
+    uint32_t key[3], low_bits, high_bits; /* its keys, and the bits of its halves */
+    uint32_t bank_bits;                   /* those of the number of a bank's lines */
 };
 
 struct pcm_outcome {
@@ -148,6 +159,8 @@ struct pcm {
                               sets it; 0: any */
     int tells_shape;       /* whether the words of pcm_open have `--tell shape`. Where the program was told so otherwise, the caller sets it */
     struct pcm_shape shape; /* behind pcm_learn: what the module is */
+    uint64_t seed;         /* by the words of pcm_open. Where the program was told so otherwise, the caller sets it before any other call */
+    struct pcm_randomiser randomiser; /* behind pcm_learn: that of the shape and the seed */
     uint64_t tick;         /* of the last row or settle; behind pcm_settle_until the one that was reached */
     uint32_t settles;      /* how many were sent, those of calls that take all among them, whose PCM_SETTLED wasn't taken yet */
     pcm_logger log;        /* the caller's, from pcm_open on, which sets it to NULL: each row is handed to it, with `context` */
@@ -175,6 +188,9 @@ static inline enum pcm_result pcm_open_apart(struct pcm *pcm, const char *const 
    `wanted` that isn't 0 is another (NULL: all are right); the module goes on. PCM_REFUSED where the program doesn't tell its shape. Call it
    behind pcm_open, or at any time. */
 static inline enum pcm_result pcm_learn(struct pcm *pcm, const struct pcm_shape *wanted);
+/* The bank of a line, behind pcm_learn: whose queue a write or a read of it waits in. PCM_NO_BANK where the shape isn't known, or the module hasn't
+   the line. */
+static inline uint32_t pcm_bank_of(const struct pcm *pcm, uint32_t line);
 /* A write of a whole line, of so many bytes, arrives. The bytes are copied. */
 static inline enum pcm_result pcm_write(struct pcm *pcm, uint64_t tick, uint32_t line, const uint8_t *bytes, size_t size);
 /* A write that gives the bytes for which `given` isn't 0 (at least one) arrives. Both are copied. */
@@ -218,9 +234,9 @@ static inline enum pcm_result pcm_next(struct pcm *pcm, struct pcm_outcome *outc
 static inline enum pcm_result pcm_finish(struct pcm *pcm);
 /* Closes all, waits for the program, and answers its status; -1 where the system tells none, as where it was killed. Behind pcm_finish the answers
    that are left are taken and dropped, and the status is that of all rows: 0, or 1 where some row fell short; 2 where the words are wrong, 3
-   where a row is, 6 where there are too many, 7 where memory ran out. Without pcm_finish rows that wait to be sent are dropped, and nobody takes
-   what the program still says: if it says anything, the status may be 5, with `write fault` on standard error; a module that can be copied
-   (pcm_copy.h) ends then without a word, and the status is -1. */
+   where a row is, 6 where there are too many, 7 where memory ran out. Without pcm_finish rows that wait to be sent are dropped, and the status is
+   that of those before; where the program goes on to say more than PCM_MOST_LEFT bytes, nobody takes them, and it is what the program makes of
+   that; a module that can be copied (pcm_copy.h) ends then at once, and the status is -1. */
 static inline int pcm_close(struct pcm *pcm);
 
 /* From here on: how. */
@@ -330,6 +346,7 @@ static inline enum pcm_result pcm__open(struct pcm *pcm, const char *const words
     pcm->process = -1;
     pcm->line_size = strcmp(pcm__value(words, "--line", "64"), "128") == 0 ? 128 : 64; /* (the program refuses all other values) */
     pcm->tells_shape = strcmp(pcm__value(words, "--tell", "nothing"), "shape") == 0;
+    pcm->seed = strtoull(pcm__value(words, "--seed", "0"), NULL, 10);
     if (strcmp(pcm__value(words, "--print", "rows"), "rows") != 0) {
         errno = EINVAL;
         return PCM_REFUSED;
@@ -755,6 +772,61 @@ static inline enum pcm_result pcm__wear(const char *at, struct pcm_wear *wear)
     return PCM_OK;
 }
 
+/* The binary logarithm of a power of two. */
+static inline uint32_t pcm__bits(uint32_t power)
+{
+    uint32_t bits = 0;
+    while (bits < 31 && power >> bits > 1)
+        bits++;
+    return bits;
+}
+
+/* The randomiser of a module of so many banks, each of so many lines, by its seed. */
+static inline struct pcm_randomiser pcm__randomiser(uint32_t banks, uint32_t lines, uint64_t seed)
+{
+    struct pcm_randomiser it;
+    for (uint64_t i = 0; i < 3; i++) {
+        uint64_t word = seed + (i + 1) * UINT64_C(0x9e3779b97f4a7c15);
+        word = (word ^ word >> 30) * UINT64_C(0xbf58476d1ce4e5b9);
+        word = (word ^ word >> 27) * UINT64_C(0x94d049bb133111eb);
+        it.key[i] = (uint32_t)(word ^ word >> 31) & 0xffff;
+    }
+    it.bank_bits = pcm__bits(lines);
+    it.low_bits = (pcm__bits(banks) + it.bank_bits) / 2;
+    it.high_bits = pcm__bits(banks) + it.bank_bits - it.low_bits;
+    return it;
+}
+
+/* A round: what a half of so many bits is xored with, by the other half and a key. (Halves have at most 13 bits, keys 16.) */
+static inline uint32_t pcm__round(uint32_t half, uint32_t key, uint32_t bits)
+{
+    return (half ^ key) * (half ^ key) & ((UINT32_C(1) << bits) - 1);
+}
+
+/* The three rounds by the keys in their order (`first` is 0), which give where a line goes, counted through the banks, the regions of each and the
+   lines of each of these; or from the last one (`first` is 2), which give the line that goes there. */
+static inline uint32_t pcm__spread(const struct pcm_randomiser *it, uint32_t number, uint32_t first)
+{
+    uint32_t left = number >> it->low_bits, right = number ^ left << it->low_bits;
+    left ^= pcm__round(right, it->key[first], it->high_bits);
+    right ^= pcm__round(left, it->key[1], it->low_bits);
+    left ^= pcm__round(right, it->key[2 - first], it->high_bits);
+    return left << it->low_bits | right;
+}
+
+/* The bank of a line that the module has. */
+static inline uint32_t pcm__bank_of(const struct pcm_randomiser *it, uint32_t line)
+{
+    return pcm__spread(it, line, 0) >> it->bank_bits;
+}
+
+static inline uint32_t pcm_bank_of(const struct pcm *pcm, uint32_t line)
+{
+    const struct pcm_shape *shape = &pcm->shape;
+    int is_here = shape->version != 0 && line < shape->banks * shape->regions * shape->lines;
+    return is_here ? pcm__bank_of(&pcm->randomiser, line) : PCM_NO_BANK;
+}
+
 /* Reads what the module is, behind the word of its line. */
 static inline enum pcm_result pcm__shape(struct pcm *pcm, const char *at)
 {
@@ -766,6 +838,7 @@ static inline enum pcm_result pcm__shape(struct pcm *pcm, const char *at)
                                     (uint32_t)it[3],   (uint32_t)it[4], (uint32_t)it[5], (uint32_t)it[6]};
     pcm->shape = found;
     pcm->line_size = found.line;
+    pcm->randomiser = pcm__randomiser(found.banks, found.regions * found.lines, pcm->seed);
     return PCM_OK;
 }
 
@@ -985,13 +1058,23 @@ static inline int pcm__part(struct pcm *pcm)
     return status;
 }
 
+/* Takes what the program still says, and drops it, up to so many bytes: so it goes on to its end. */
+static inline void pcm__drop(struct pcm *pcm, size_t most)
+{
+    ssize_t got = 1;
+    for (size_t all = 0; all < most && (got > 0 || (got < 0 && errno == EINTR)); all += got > 0 ? (size_t)got : 0)
+        got = read(pcm->from, pcm->in, sizeof pcm->in);
+}
+
 static inline int pcm_close(struct pcm *pcm)
 {
-    int status = 0, is_broken_off = pcm->control > 0 && pcm->to > 0 && send(pcm->control, "q", 1, MSG_NOSIGNAL) == 1;
-    ssize_t got = 1;
-    /* (behind pcm_finish the program goes on to its end, as long as somebody takes what it says) */
-    while (pcm->to <= 0 && pcm->from > 0 && (got > 0 || (got < 0 && errno == EINTR)))
-        got = read(pcm->from, pcm->in, sizeof pcm->in);
+    int status = 0, is_finished = pcm->to <= 0;
+    int is_broken_off = !is_finished && pcm->control > 0 && send(pcm->control, "q", 1, MSG_NOSIGNAL) == 1;
+    if (!is_finished)
+        close(pcm->to);
+    pcm->to = -1;
+    if (pcm->from > 0 && !is_broken_off)
+        pcm__drop(pcm, is_finished ? SIZE_MAX : PCM_MOST_LEFT);
     pcm__shut(pcm);
     int told = pcm__part(pcm);
     pid_t ended = -1;

@@ -6,8 +6,9 @@
                                 lead on, and in a copy of it each recipe works as it is written
     share/man/man1/             pcm.1, pcm-stream.1, pcm-explain.1 and pcm-view.1
     share/bash-completion/completions/pcm, share/zsh/site-functions/_pcm
-    include/                    pcm_stream.h, pcm_disk.h and their like, for drivers in C and C++
-    bin/cut-firmware            and lib/pcm/pcm_copy.so, where they could be built"""
+    include/                    pcm_stream.h, pcm_disk.h and their like, for drivers in C and C++, and for SystemC
+    bin/cut-firmware            and lib/pcm/pcm_copy.so, where they could be built
+    share/pcm/sv/               for SystemVerilog"""
 import os
 import pathlib
 import re
@@ -79,6 +80,8 @@ def files():
     for it in sorted((TOP / "c").glob("*.h")):
         yield f"include/{it.name}", it, False
     yield from firmware()
+    for it in sorted((TOP / "sv").glob("pcm_*")):
+        yield f"share/pcm/sv/{it.name}", it, False
 
 
 # The package looks for the wrapper where a checkout has it.

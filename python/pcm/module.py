@@ -13,6 +13,7 @@ from .errors import PcmError, TraceError, UsageError, error_of
 from .outcomes import Backlog, Outcome, Settled, Shape, Wear, told_of
 from .program import Program, command, words_of
 from .progress import Progress
+from .randomiser import Randomiser
 from .rows import HEADER, MaskedWrite, PowerCut, Read, Row, Write, masked, numbered
 from .words import LARGE, LATEST_TICK, Handed, wrong_row
 
@@ -71,7 +72,8 @@ class Module:
         self._wear: Optional[Wear] = None
         self._shape: Optional[Shape] = None
         self._tells_shape = options.get("tell") == "shape"
-        self._lines = LARGE.all_lines
+        self._lines, self._seed = LARGE.all_lines, int(str(options.get("seed") or 0))
+        self._randomiser: Optional[Randomiser] = None
         # (the program refuses all other sizes)
         self.line_size: Optional[int] = {"None": 64, "64": 64, "128": 128}.get(str(options.get("line")))
         self.status: Optional[int] = None
@@ -120,6 +122,18 @@ class Module:
             self._pump(wait=True)
         self._progress.clear()
         return self._shape
+
+    def bank_of(self, line: int) -> int:
+        """The bank of a line, in whose queue its writes wait, by the `shape`, which it waits for, and the option `seed`. `ValueError` where the shape
+        isn't told, `IndexError` where the module has no such line."""
+        shape = self.shape
+        if shape is None:
+            raise ValueError("the module doesn't tell its shape (tell=\"shape\")")
+        if not 0 <= line < shape.banks * shape.regions * shape.lines:
+            raise IndexError(f"the module has no line {line}")
+        if self._randomiser is None:
+            self._randomiser = Randomiser(shape.banks * shape.regions * shape.lines, self._seed)
+        return self._randomiser.place(line) // (shape.regions * shape.lines)
 
     def write(self, tick: int, line: int, data: bytes) -> int:
         """A write of a whole line arrives at a tick. Answers the row's number."""
