@@ -138,8 +138,15 @@ private:
         std::set<uint32_t> pages;
         for (const auto &it : image.segments)
             for (uint64_t at = it.address / page; at <= (it.address + it.bytes.size() - 1) / page; at++)
-                if (pages.insert(static_cast<uint32_t>(at)).second)
-                    must(uc_mem_map(uc, at * page, page, UC_PROT_READ | UC_PROT_EXEC), "flash");
+                pages.insert(static_cast<uint32_t>(at));
+        for (auto first = pages.begin(); first != pages.end();) {
+            auto behind = first;
+            uint32_t count = 0;
+            while (behind != pages.end() && *behind == *first + count)
+                ++behind, count++;
+            must(uc_mem_map(uc, static_cast<uint64_t>(*first) * page, static_cast<size_t>(count) * page, UC_PROT_READ | UC_PROT_EXEC), "flash");
+            first = behind;
+        }
         for (const auto &it : image.segments)
             must(uc_mem_write(uc, it.address, it.bytes.data(), it.bytes.size()), "flash");
         uint32_t stack = image.vector(0), entry = image.vector(1);
@@ -189,8 +196,9 @@ private:
     }
     std::string place() const
     {
-        uint32_t at = 0;
-        uc_reg_read(uc, UC_ARM_REG_PC, &at);
+        uint32_t at = pc; /* (else, amidst a block, where that begins) */
+        if (at == 0)
+            uc_reg_read(uc, UC_ARM_REG_PC, &at);
         return ", at " + image.where(at);
     }
     void stop()

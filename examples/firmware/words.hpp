@@ -23,7 +23,8 @@ static const char usage[] =
     "  --cache N         a cache of N lines of 32 bytes that writes back stands before the module (0: none)\n"
     "  --evicts N        one of N accesses of the cache writes back any line of it (6; 0: only where room is wanted)\n"
     "  --at A            store (default): moments as above; access: before each load and store\n"
-    "  --from N --to N --every N    of the first cuts only those of these numbers: so a part for each processor\n"
+    "  --from N --to N --every N    of the first cuts only those of these numbers\n"
+    "  --jobs N          processes that share the first cuts (1)\n"
     "  --seed N          draws the moments of a life, what the cache writes back, and the module's cells (1)\n"
     "  --limit N         instructions of a boot, behind which it hangs (10000000)\n"
     "  --cpu C           cortex-m0, cortex-m3, cortex-m4, cortex-m7 (default) or cortex-m33\n"
@@ -144,6 +145,7 @@ private:
         const uint64_t any = UINT64_MAX, million = 1000000;
         const Numbered all[] = {
             {"--depth", 1, 8, into(depth)},
+            {"--jobs", 1, 256, into(plan.jobs)},
             {"--operations", 0, million, into(plan.operations)},
             {"--more", 0, million, into(plan.more)},
             {"--bytes", 4, Board::most_nvm, into(plan.bytes)},
