@@ -23,7 +23,7 @@ use Rattle.snapshot_laws.specs.Rising.{EndedLaw, SoFarLaw}
 use Rattle.stream_promise.specs.Promise.{BeginsInPartByRows, BreakByRows, BreaksByRows, BreaksOnRows, ComeByRows, DoesByRows, DoesOnRows, EndsInPartByRows, EndsRows, GoesOnTo}
 use Rattle.stream_promise.specs.Promise.{IsServedByRows, IsServedInPartByRows, LastSnapshotLaw, PromisesByRows, StopByRows, StopsByRows, StopsOnRows, StreamsByRows}
 use Rattle.stream_promise.specs.Rows.{is_refusal_told}
-use Rattle.stream_promise.proofs.{Rows.{adds, by-rows, counts-rows, cut-same, end-where, rows-of, snaps-by-rows, without-refusal, without-refusal-before}, Spares.used-alike}
+use Rattle.stream_promise.proofs.{Rows.{adds, by-rows, counts-rows, cut-same, end-where, looks-at, rows-of, shows-at, snaps-by-rows, without-refusal, without-refusal-before}, Spares.used-alike}
 use Rattle.pcm_module.specs.Roles.{spares_used}
 
 -- the laws of streams by which it does
@@ -115,8 +115,10 @@ module _ {S : Type 0} (laws : StreamLaws S) (n m e : ℕ) (job : StreamJob) (sou
           rows = by-rows e job.shape job.seed asked served.history told served.along;
           once = served.once;
           in_time = laws.begun n m e job source array asked told served;
+          looks = looks-at e job.shape job.seed served.module_ array asked served.history told served.along served.now;
           snapshots = served.snapshots;
           snaps = snaps-by-rows e job.shape job.seed (shown_by job.shape job.print) asked served.history told served.along served.snapshots served.snaps;
+          shows = shows-at e job.shape job.seed served.module_ array (shown_by job.shape job.print) asked served.history told served.along served.snapshots served.snaps served.now;
           rise =
               laws.so_far_rises n m e job.shape job.seed (length (events_in asked)) (shown_by job.shape job.print) asked served.history told served.along served.snapshots served.once served.snaps;
           module_ = served.module_;

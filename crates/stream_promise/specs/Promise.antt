@@ -27,7 +27,7 @@ use Rattle.stream_top.specs.{declared.done.Done.Done, declared.done.Done.TheVari
 use Rattle.moment_laws.specs.Moments.{IsQueuedNow, so_far, stand_now}
 use Rattle.settle_laws.specs.Settles.{SettlesForGood, SettlesSoFar}
 use Rattle.snapshot_laws.specs.Rising.{NeverFall}
-use Rattle.stream_promise.specs.Rows.{CountsRows, EndWhere, RowsTold, SnapsByRows, TellsByRows, WithoutRefusal, WithoutRefusalBefore, before_cut, is_refusal_told}
+use Rattle.stream_promise.specs.Rows.{CountsRows, EndWhere, LooksAt, RowsTold, ShowsAt, SnapsByRows, TellsByRows, WithoutRefusal, WithoutRefusalBefore, before_cut, is_refusal_told}
 
 -- lines of n bytes with m check bytes and e error-correcting pointers
 module _ {S : Type 0} (n m e : ℕ) (job : StreamJob) (source : LentSource S) where
@@ -96,8 +96,10 @@ module _ {S : Type 0} (n m e : ℕ) (job : StreamJob) (source : LentSource S) wh
     pub rows : TellsByRows job.shape job.seed asked told
     pub once : TellsOnce (length (events_in asked)) (outcomes_in told)
     pub in_time : SettlesSoFar asked told
+    pub looks : LooksAt e array asked told
     pub snapshots : List Snapshot
     pub snaps : SnapsByRows job.shape job.seed (shown_by job.shape job.print) asked told rows snapshots
+    pub shows : ShowsAt e array (shown_by job.shape job.print) asked snapshots
     pub rise : NeverFall snapshots
     pub module_ : ModuleState n m e
     pub stands : (line : ℕ) → line < total_of job.shape
