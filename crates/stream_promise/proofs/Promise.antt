@@ -26,7 +26,7 @@ use Rattle.snapshot_laws.specs.Rising.{EndedLaw, SoFarLaw}
 use Rattle.stream_promise.specs.Promise.{BeginsInPartByRows, BreakByRows, BreaksByRows, BreaksOnRows, ComeByRows, DoesByRows, DoesOnRows, EndsInPartByRows, EndsRows, GoesOnTo}
 use Rattle.stream_promise.specs.Promise.{IsServedByRows, IsServedInPartByRows, LastSnapshotLaw, PromisesByRows, StopByRows, StopsByRows, StopsOnRows, StreamsByRows, rows_so_far}
 use Rattle.stream_promise.specs.Rows.{is_refusal_told}
-use Rattle.stream_promise.proofs.Rows.{adds, by-rows, counts-rows, cut-same, end-where, in-turn-by-rows, marks-by-rows, rows-of, snaps-by-rows, without-refusal}
+use Rattle.stream_promise.proofs.Rows.{adds, by-rows, counts-rows, cut-same, end-where, in-turn-by-rows, looks-at, marks-by-rows, rows-of, shows-at, snaps-by-rows, without-refusal}
 use Rattle.stream_promise.proofs.{Rows.without-refusal-before, Spares.used-alike}
 use Rattle.bank_timing.specs.Extending.{outcome_in}
 use Rattle.pcm_module.specs.{Roles.spares_used, State.bank_at}
@@ -138,8 +138,11 @@ module _ {S : Type 0} (laws : StreamLaws S) (n m e : ℕ) (job : StreamJob) (sou
           marks =
               marks-by-rows e job.shape job.seed laws.moment served.lawful.shape asked (outcome_in (table_of (length (events_in asked)) told)) asked served.history told served.along
               (laws.marks n m e job.shape job.seed asked served.history served.module_ array told served.lawful.shape served.along served.left);
+          looks = looks-at e job.shape job.seed laws.moment served.lawful.shape served.module_ array asked served.history told served.along served.now;
           snapshots = served.snapshots;
           snaps = snaps-by-rows e job.shape job.seed laws.moment served.lawful.shape (shown_by job.shape job.print) asked served.history told served.along served.snapshots served.snaps;
+          shows =
+              shows-at e job.shape job.seed laws.moment served.lawful.shape served.module_ array (shown_by job.shape job.print) asked served.history told served.along served.snapshots served.snaps served.now;
           rise =
               laws.so_far_rises n m e job.shape job.seed (length (events_in asked)) (shown_by job.shape job.print) asked served.history told served.along served.snapshots served.once served.snaps;
           served = kept.reads;

@@ -1,5 +1,5 @@
 -- What was told along the histories of a module's banks was told row by row.
-use Rattle.std.proofs.Common.{◌≡◌, inl, inr, ℕ, zero, suc, ◌<◌, Bool, true, false, List, [], ◌∷◌, length, refl, ap, subst, arith}
+use Rattle.std.proofs.Common.{◌≡◌, inl, inr, ℕ, zero, suc, ◌<◌, Bool, true, false, List, [], ◌∷◌, ◌++◌, length, refl, ap, subst, ◌∙◌, arith}
 use Rattle.cell_rows.specs.Device.{ArrayState}
 use Rattle.result_rows.specs.declared.Outcome.{Outcome}
 use Rattle.bank_model.specs.Timing.{TimedEvent}
@@ -7,16 +7,16 @@ use Rattle.row_rules.specs.declared.Row.{Row}
 use Rattle.module_shape.specs.{Limits.IsShape, declared.raw.RawShape.RawShape}
 use Rattle.right_runs.specs.Tables.{table_in}
 use Rattle.pcm_module.specs.State.{ModuleState, bank_at}
-use Rattle.row_printer.specs.{Printing.table_of, Snapshots.AddsDue, declared.snapshot.Snapshot.Snapshot, declared.told.Shown.Shown, declared.told.Told.Told}
+use Rattle.row_printer.specs.{Printing.table_of, Snapshots.AddsDue, Telling.became, declared.snapshot.Snapshot.Snapshot, declared.told.Shown.Shown, declared.told.Told.Told, declared.told.Told.TheVariants.{Looked, Settled}}
 use Rattle.trace_stream.specs.{Asked.events_in, declared.asked.Asked.Asked, declared.asked.Asked.TheVariants.{Happens, Settle, Query, Look, Until}}
 use Rattle.row_stream.specs.{Answering.{backlog_of, banks_told}, Asking.{behind_of, cut_if, tick_reached, with_cut}, Ending.{without_cut, without_cut_if}}
 use Rattle.row_stream.specs.{Looking.{IsSnapshot, wear_of}, Refusing.{EndsBehind, MayGoOn, NoneBefore, WentOn}}
-use Rattle.row_stream.specs.{Serving.{AreKnown, SnapsAlong, Telling, TellsAlong, is_due_behind, lines_of}, declared.stop.Behind.Behind}
+use Rattle.row_stream.specs.{Serving.{AreKnown, IsToldOf, SnapsAlong, Telling, TellsAlong, is_due_behind, lines_of}, declared.stop.Behind.Behind}
 use Rattle.row_stream.specs.declared.stop.Behind.TheVariants.{Nothing, Going, Off}
 use Rattle.moment_laws.specs.{Backlogs.CountsBacklog, Moments.{LosesNothing, MomentLaw, rows_now}}
 use Rattle.settle_laws.specs.{Marks.AreMarksTrue, Turns.AreInTurn}
 use Rattle.stream_promise.specs.Rows.{AreAnswers, AreInTurnByRows, AreMarksTrueByRows, AreOfBanks, CountsRows, EndWhere, NoneWasBefore, RowsTold, SnapsByRows, TellsByRows}
-use Rattle.stream_promise.specs.Rows.{WithoutRefusal, WithoutRefusalBefore, before_cut, before_cut_if}
+use Rattle.stream_promise.specs.Rows.{LooksAt, ShowsAt, WithoutRefusal, WithoutRefusalBefore, before_cut, before_cut_if}
 
 -- ---- lines
 
@@ -143,3 +143,26 @@ module _ {n m : ℕ} (e : ℕ) (raw : RawShape) (seed : ℕ) (moment : MomentLaw
       → AreMarksTrue e raw seed whole in_the_end asked h told along → AreMarksTrueByRows raw seed whole in_the_end asked told (by-rows asked h told along)
   marks-by-rows whole in_the_end [] h told along are = tt
   marks-by-rows whole in_the_end (row ∷ before) h told along are = (marks-by-rows whole in_the_end before along.0 along.1 along.2 are.0, are.1)
+
+  -- ---- the last row
+
+  pub looks-at : (module_ : ModuleState n m e) (array : ArrayState n m) (asked : List (Asked n)) (h : ℕ → List (TimedEvent n m)) (told : List (Told n)) (along : TellsAlong e raw seed asked h told)
+      → IsToldOf e raw seed module_ array asked h told along → LooksAt e array asked told
+  looks-at module_ array [] h told along now = tt
+  looks-at module_ array (Happens event ∷ before) h told along now = tt
+  looks-at module_ array (Settle tick ∷ before) h told along now = tt
+  looks-at module_ array (Query tick ∷ before) h told along now = tt
+  looks-at module_ array (Look tick ∷ before) h told along now =
+      let said : List (Told n) = along.1 ++ became along.5 in
+      (said, subst (λ (a : ArrayState n m). told ≡ said ++ Looked tick (wear_of e a) ∷ Settled tick ∷ []) now.1 along.8)
+  looks-at module_ array (Until until ∷ before) h told along now = tt
+
+  pub shows-at : (module_ : ModuleState n m e) (array : ArrayState n m) (shown : Shown) (asked : List (Asked n)) (h : ℕ → List (TimedEvent n m)) (told : List (Told n)) (along : TellsAlong e raw seed asked h told)
+      (snapshots : List Snapshot) → SnapsAlong e raw seed shown asked h told along snapshots → IsToldOf e raw seed module_ array asked h told along → ShowsAt e array shown asked snapshots
+  shows-at module_ array shown [] h told along snapshots snaps now = tt
+  shows-at module_ array shown (row ∷ before) h told along snapshots snaps now =
+      let rows : ℕ = length (events_in (row ∷ before)) in (
+        snaps.0,
+        adds (is_due_behind shown row rows) (IsSnapshot rows (tick_reached (row ∷ before)) told along.7.module_ along.7.array) (λ one. one.wear ≡ wear_of e array) snaps.0 snapshots
+            (λ one is. is.wear ∙ ap (λ (a : ArrayState n m). wear_of e a) now.1) snaps.2,
+      )

@@ -28,7 +28,7 @@ use Rattle.stream_top.specs.{declared.done.Done.Done, declared.done.Done.TheVari
 use Rattle.moment_laws.specs.Moments.{rows_now}
 use Rattle.settle_laws.specs.Settles.{SettlesForGood, SettlesSoFar}
 use Rattle.snapshot_laws.specs.Rising.{NeverFall}
-use Rattle.stream_promise.specs.Rows.{AreInTurnByRows, AreMarksTrueByRows, CountsRows, EndWhere, RowsTold, SnapsByRows, TellsByRows, WithoutRefusal, WithoutRefusalBefore}
+use Rattle.stream_promise.specs.Rows.{AreInTurnByRows, AreMarksTrueByRows, CountsRows, EndWhere, LooksAt, RowsTold, ShowsAt, SnapsByRows, TellsByRows, WithoutRefusal, WithoutRefusalBefore}
 use Rattle.stream_promise.specs.Rows.{before_cut, is_refusal_told}
 
 -- lines of n bytes with m check bytes and e error-correcting pointers
@@ -106,8 +106,10 @@ module _ {S : Type 0} (n m e : ℕ) (job : StreamJob) (source : LentSource S) wh
     pub in_time : SettlesSoFar asked told
     pub in_turn : AreInTurnByRows job.shape job.seed asked told rows (outcome_in (table_of (length (events_in asked)) told))
     pub marks : AreMarksTrueByRows job.shape job.seed asked (outcome_in (table_of (length (events_in asked)) told)) asked told rows
+    pub looks : LooksAt e array asked told
     pub snapshots : List Snapshot
     pub snaps : SnapsByRows job.shape job.seed (shown_by job.shape job.print) asked told rows snapshots
+    pub shows : ShowsAt e array (shown_by job.shape job.print) asked snapshots
     pub rise : NeverFall snapshots
     pub served : IsTrue (each_row is_served_so_far (rows_so_far asked told) [])
     pub size : array.lines ≡ job.shape.banks * array_lines_of (module_of job.shape)

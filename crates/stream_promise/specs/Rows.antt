@@ -1,5 +1,6 @@
 -- What a stream tells row by row, said of its rows and its lines alone. What was asked stands with the newest row first.
 use Rattle.std.specs.Prelude.{◌≡◌, ◌⊎◌, ℕ, zero, suc, Bool, true, false, List, [], ◌∷◌, ◌++◌, All, length}
+use Rattle.cell_rows.specs.Device.{ArrayState}
 use Rattle.result_rows.specs.declared.Outcome.{Outcome}
 use Rattle.bank_timing.specs.Extending.{outcome_in}
 use Rattle.module_shape.specs.declared.raw.RawShape.{RawShape}
@@ -10,7 +11,7 @@ use Rattle.row_printer.specs.{Printing.table_of, Refusing.any_refused, Snapshots
 use Rattle.row_printer.specs.{declared.told.Backlog.Backlog, declared.told.Shown.Shown, declared.told.Told.Told, declared.told.Told.TheVariants.{Bank, Looked, Settled}}
 use Rattle.trace_stream.specs.{Asked.events_in, declared.asked.Asked.Asked, declared.asked.Asked.TheVariants.{Happens, Settle, Query, Look, Until}}
 use Rattle.row_stream.specs.{Asking.{behind_of, cut_if, tick_reached, with_cut}, Reaching.ReachesBy, Serving.{ComeInOrder, is_due_behind}, declared.stop.Behind.Behind}
-use Rattle.row_stream.specs.declared.stop.Behind.TheVariants.{Nothing, Going, Off}
+use Rattle.row_stream.specs.{Looking.wear_of, declared.stop.Behind.TheVariants.{Nothing, Going, Off}}
 use Rattle.moment_laws.specs.{Backlogs.CountsBacklog, Moments.rows_now}
 use Rattle.settle_laws.specs.{Marks.IsTrueMark, Turns.TellsInTurn}
 
@@ -36,7 +37,7 @@ module _ {n : ℕ} (raw : RawShape) (seed : ℕ) where
   TellsByRows [] told = told ≡ []
   TellsByRows (row ∷ before) told =
       (said : List (Told n)) × TellsByRows before said
-      × (outcomes : List (ℕ × Outcome n)) × ComeInOrder raw seed row (events_in before) outcomes
+      × (outcomes : List (ℕ × Outcome n)) × ComeInOrder raw seed row before outcomes
       × (lines : List (Told n)) × AreAnswers (rows_now (events_in (row ∷ before)) (table_of (length (events_in (row ∷ before))) told)) row lines × (told ≡ (said ++ became outcomes) ++ lines)
       × ReachesBy (tick_reached before) row (table_of (length (events_in (row ∷ before))) told)
 
@@ -110,3 +111,18 @@ abbrev pub AreMarksTrueByRows : {n : ℕ} (raw : RawShape) (seed : ℕ) (whole :
 AreMarksTrueByRows raw seed whole in_the_end [] told rows = Unit {0}
 AreMarksTrueByRows raw seed whole in_the_end (row ∷ before) told rows =
     AreMarksTrueByRows raw seed whole in_the_end before rows.0 rows.1 × All (IsTrueMark raw seed whole in_the_end (length (events_in (row ∷ before)))) rows.4
+
+-- where the last row was a look, its line says how worn this array is
+abbrev pub LooksAt : {n m : ℕ} → ℕ → ArrayState n m → List (Asked n) → List (Told n) → Type 0
+LooksAt e array [] told = Unit {0}
+LooksAt e array (Happens event ∷ before) told = Unit {0}
+LooksAt e array (Settle tick ∷ before) told = Unit {0}
+LooksAt e array (Query tick ∷ before) told = Unit {0}
+LooksAt {n} e array (Look tick ∷ before) told = (said : List (Told n)) × (told ≡ said ++ Looked tick (wear_of e array) ∷ Settled tick ∷ [])
+LooksAt e array (Until until ∷ before) told = Unit {0}
+
+-- where a snapshot was taken behind the last row, so does that
+abbrev pub ShowsAt : {n m : ℕ} → ℕ → ArrayState n m → Shown → List (Asked n) → List Snapshot → Type 0
+ShowsAt e array shown [] snapshots = Unit {0}
+ShowsAt e array shown (row ∷ before) snapshots =
+    (earlier : List Snapshot) × AddsDue (is_due_behind shown row (length (events_in (row ∷ before)))) (λ one. one.wear ≡ wear_of e array) earlier snapshots

@@ -22,7 +22,7 @@ use Rattle.trace_gen.specs.Generated.{generated}
 use Rattle.trace_stream.specs.{Asked.events_in, Laws.all_events, declared.asked.Asked.Asked}
 use Rattle.trace_stream.specs.declared.fault.StreamFault.TheVariants as from
 use Rattle.row_stream.specs.{Asking.{BeginsWith, stays_off, with_cut}, Ending.{EndsShowing, HasEnded, SnapsAll, rows_of, told_along, without_cut}, Laws.TellsEach}
-use Rattle.row_stream.specs.{Refusing.{EndsBehind, MayGoOn, WentOn, tells_refusal}, Serving.{HasServed, SnapsAlong, Telling, TellsAlong}, Sourcing.{HasStopped, IsRead, IsReadTo}}
+use Rattle.row_stream.specs.{Refusing.{EndsBehind, MayGoOn, WentOn, tells_refusal}, Serving.{HasServed, IsToldOf, SnapsAlong, Telling, TellsAlong}, Sourcing.{HasStopped, IsRead, IsReadTo}}
 use Rattle.row_stream.specs.{declared.stop.Stop.Stop, declared.stop.Stop.TheVariants.{Input as No, Late, Endless, Output}}
 use Rattle.stream_top.specs.{Calls.LentSource, Leaving.{IsClosing, Leaves, WritesRowsOf, senses_for}, declared.done.Done.Done, declared.done.Done.TheVariants.{Whole, Short}}
 use Rattle.stream_top.specs.{declared.fault.Fault.Fault, declared.fault.Fault.TheVariants.{Usage, Trace, Read, Write, TooLong, NoMemory}}
@@ -167,13 +167,15 @@ module _ {S : Type 0} (n m e : ℕ) (job : StreamJob) (source : LentSource S) wh
       IsClosing job.shape job.seed served.places (counts_of (table_of served.places told)) served.ended.ends array (cells_at e array changes) served.saved job.print text
 
   -- only its first rows were, which asked this, and this was told: row by row what became known, once of a row; and
-  -- these snapshots were taken, each of what its row left. The array, which was powered up with the job's wear, is as the last of these rows left it
+  -- these snapshots were taken, each of what its row left. The array, which was powered up with the job's wear, is as the last of these rows left it, and
+  -- that row's lines, and a snapshot behind it, are of this very array
   pub record IsServedInPart (array : ArrayState n m) (asked : List (Asked n)) (told : List (Told n)) : Type 0 where
     pub lawful : IsStreamJob job
     pub history : ℕ → List (TimedEvent n m)
     pub along : TellsAlong e job.shape job.seed asked history told
     pub module_ : ModuleState n m e
     pub left : HasServed job.shape job.seed (events_in asked) history module_ array (table_of (length (events_in asked)) told)
+    pub now : IsToldOf e job.shape job.seed module_ array asked history told along
     pub wear : array.wear ≡ Some job.wear
     pub snapshots : List Snapshot
     pub snaps : SnapsAlong e job.shape job.seed (shown_by job.shape job.print) asked history told along snapshots
