@@ -7,5 +7,6 @@ mod Lines
 mod Along
 mod Law
 mod Deciding
+mod Exhausting
 mod Turned
 mod Turning

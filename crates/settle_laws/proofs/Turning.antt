@@ -1,23 +1,26 @@
 -- Behind each row a stream has told in turn what became of its rows.
-use Rattle.std.proofs.Common.{◌≡◌, ◌≢◌, ℕ, ◌+◌, ◌<◌, ◌≤◌, cond, Bool, true, false, List, [], ◌∷◌, ◌++◌, length, map, Option, Some, None, refl, sym, ap, subst, ◌∙◌, append_assoc, arith}
-use Rattle.std.{specs.Prelude.{All, IfSome, IsSomeAnd, filter, slice_get}, proofs.lemmas.List.Elements.{All-head, All-weaker}}
+use Rattle.std.proofs.Common.{◌≡◌, ◌≢◌, ℕ, zero, suc, ◌+◌, ◌<◌, ◌≤◌, ◌==◌, ◌&&◌, ◌||◌, cond, Bool, true, false, List, [], ◌∷◌, ◌++◌, length, map, Option, Some, None, refl, sym, ap, subst, ◌∙◌, append_assoc, arith}
+use Rattle.std.{specs.Prelude.{All, IfSome, IsSomeAnd, filter, slice_get, unwrap_or}, proofs.lemmas.Bool.ne_eqb}
+use Rattle.std.proofs.lemmas.List.Elements.{All-append, All-cons, All-head, All-nil, All-tail, All-weaker}
 use Rattle.trace_reader.specs.declared.event.Event.{Event}
 use Rattle.result_rows.specs.{Outcomes.tick_of, declared.Outcome.Outcome}
 use Rattle.result_rows.specs.declared.Outcome.TheVariants as out
-use Rattle.row_rules.specs.{Lines.IsOfLines, Table.is_of}
+use Rattle.row_rules.specs.{Answers.accepts, Lines.IsOfLines, Table.is_of}
+use Rattle.bank_shape.specs.declared.BankShape.{BankShape}
 use Rattle.trace_rows.specs.Rows.{asks_of}
-use Rattle.bank_model.specs.{Lawful.Lawful, Timing.{TimedEvent, last_tick}}
+use Rattle.bank_model.specs.{History.has_exhausted, Lawful.Lawful, Timing.{TimedEvent, core, last_tick}}
 use Rattle.module_shape.specs.{Addresses.{bank_shape, module_of}, Limits.{IsShape, total_of}, declared.raw.RawShape.RawShape}
-use Rattle.module_laws.specs.Asking.{Asked, asked_in, asked_of}
+use Rattle.module_laws.specs.Asking.{Asked, AreAsked, asked_in, asked_of}
 use Rattle.clock_laws.specs.State.{ClockState}
 use Rattle.bank_timing.specs.Extending.{outcome_in}
 use Rattle.right_runs.specs.Banks.{bank_of_line, line_in_bank, pacing_in}
 use Rattle.run_laws.proofs.Mixing.{lines_law}
-use Rattle.pcm_module.specs.{Asking.{asked_by, asked_for}, Replaying.ReplaysIn, State.bank_at}
-use Rattle.row_printer.specs.{Printing.table_of, declared.told.Told.Told}
+use Rattle.pcm_module.specs.{Asking.{asked_by, asked_for}, Replaying.ReplaysIn, State.{bank_at, first_bank}, Telling.{comes_to, is_asked_of}}
+use Rattle.row_printer.specs.{Printing.table_of, declared.told.Mark.TheVariants.Exhausted, declared.told.Told.Told, declared.told.Told.TheVariants.{Bank, Looked, Settled}}
 use Rattle.trace_stream.specs.{Asked.events_in, declared.asked.Asked.Asked as StreamAsked, declared.asked.Asked.TheVariants.{Happens as IsEvent, Settle, Query, Look, Until}}
-use Rattle.row_stream.specs.{Asking.tick_reached, Serving.{AreKnown, TellsAlong}}
-use Rattle.settle_laws.{specs.Turns.{AreInTurn, EndedTurnLaw, TellsInTurn, TurnLaw, comes_in, is_decided, is_in_bank}, proofs.Along.events-both, proofs.Banks.{IsRight, known_of}}
+use Rattle.row_stream.specs.{Answering.{backlog_of, banks_told, mark_of}, Asking.tick_reached, Looking.wear_of, Serving.{AreKnown, TellsAlong, lines_of}}
+use Rattle.settle_laws.specs.{Marks.{AreMarksTrue, EndedMarkLaw, IsTrueMark, MarkLaw}, Turns.{AreInTurn, EndedTurnLaw, TellsInTurn, TurnLaw, comes_in, is_decided, is_in_bank}}
+use Rattle.settle_laws.proofs.{Along.events-both, Banks.{IsRight, known_of}, Exhausting.rejected}
 use Rattle.settle_laws.proofs.Rows.{Goes, all-second, each-place, each-row, front-asked, goes-finished, goes-so-far, in-front, own-both, row-of}
 use Rattle.settle_laws.proofs.Turned.{IsTurned, bank-turned, from-before, from-told, of-bank-row}
 
@@ -54,6 +57,37 @@ module _ {n : ℕ} (raw : RawShape) (seed : ℕ) where
   reached-low (Query at) before bank tick comes all = absurd (cc comes)
   reached-low (Look at) before bank tick comes all = absurd (cc comes)
   reached-low (Until until) before bank tick comes all = absurd (cc comes)
+
+all-first : {X : Type 0} (P : X → Type 0) (xs ys : List X) → All P (xs ++ ys) → All P xs
+all-first P [] ys all = All-nil P
+all-first P (x ∷ xs) ys all = All-cons P x xs (All-head P x (xs ++ ys) all) (all-first P xs ys (All-tail P x (xs ++ ys) all))
+
+marked-exhausted : (exhausted halted : Bool) → mark_of exhausted halted ≡ Exhausted → exhausted ≡ true
+marked-exhausted true halted is = refl
+marked-exhausted false true is = absurd (cc is)
+marked-exhausted false false is = absurd (cc is)
+
+module _ {n : ℕ} (home : ℕ → ℕ) (bank : ℕ) where
+  -- no event has a number that is greater than how many there are
+  no-row : (events : List (Event n)) (k : ℕ) → length events < k → is_asked_of home bank (asked_for events) k ≡ false
+  no-row [] k behind = refl
+  no-row (event ∷ below) k behind =
+      by (comes_to home bank (asks_of event.op)) (length below + 1 == k) (ne_eqb (length below + 1) k (λ is. omega (arith, behind, is))) (no-row below k (omega (arith, behind)))
+    where
+      by : (comes own : Bool) → own ≡ false → is_asked_of home bank (asked_for below) k ≡ false → ((comes && own) || is_asked_of home bank (asked_for below) k) ≡ false
+      by true own none rest = ap (λ b. b || is_asked_of home bank (asked_for below) k) none ∙ rest
+      by false own none rest = rest
+
+  -- so a row with such a number is one of the later ones
+  front-row : (later events : List (Event n)) (k : ℕ) → length events < k → is_asked_of home bank (asked_for (later ++ events)) k ≡ true → is_asked_of home bank (in-front later events) k ≡ true
+  front-row [] events k behind is = absurd (cc (sym (no-row events k behind) ∙ is))
+  front-row (event ∷ later) events k behind is =
+      by (comes_to home bank (asks_of event.op) && (length (later ++ events) + 1 == k)) (front-row later events k behind) is
+    where
+      by : (own : Bool) → (is_asked_of home bank (asked_for (later ++ events)) k ≡ true → is_asked_of home bank (in-front later events) k ≡ true)
+          → (own || is_asked_of home bank (asked_for (later ++ events)) k) ≡ true → (own || is_asked_of home bank (in-front later events) k) ≡ true
+      by true ih is = refl
+      by false ih is = ih is
 
 -- of a module behind a row, and the histories that those of its banks go on to
 module _ {n m : ℕ} (e : ℕ) (raw : RawShape) (seed : ℕ) (is : IsShape raw) (row : StreamAsked n) (before : List (StreamAsked n)) (h : ℕ → List (TimedEvent n m)) (told : List (Told n))
@@ -125,6 +159,74 @@ module _ {n m : ℕ} (e : ℕ) (raw : RawShape) (seed : ℕ) (is : IsShape raw) 
   right-of bank exists =
       of-bank-row (home raw seed) (number raw seed) bank (λ k. IsRight (last_tick (h bank)) (outcome_in results k) (outcome k)) (asked_for events) (turned bank exists).right
 
+  -- and behind a bank that was exhausted no write of it is accepted
+  no-write : (bank : ℕ) → bank < raw.banks → has_exhausted (core (h bank)) ≡ true → (k : ℕ) → length events < k
+      → is_asked_of (home raw seed) bank (asked_for (later ++ events)) k ≡ true → accepts (outcome k) ≡ false
+  no-write bank exists exhausted k behind is =
+      of-bank-row (home raw seed) (number raw seed) bank (λ k. accepts (outcome k) ≡ false) (in-front later events) each k (front-row (home raw seed) bank later events k behind is)
+    where
+      shape : BankShape
+      shape = bank_shape (module_of raw) bank
+
+      all : List (TimedEvent n m)
+      all = since bank ++ h bank
+
+      lawful : Lawful shape (pacing_in raw) e all
+      lawful = subst (λ (xs : List (TimedEvent n m)). Lawful shape (pacing_in raw) e xs) (parts bank) (goes.lawful bank exists)
+
+      asked : AreAsked all (own-later bank ++ own bank)
+      asked =
+          subst (λ (asked : List (Asked n)). AreAsked all asked) (own-all bank)
+          (subst (λ (xs : List (TimedEvent n m)). AreAsked xs (asked_of (home raw seed) (number raw seed) bank (asked_for (later ++ events)))) (parts bank) (goes.asked bank exists))
+
+      recorded : All (λ (a : Asked n). outcome a.row ≡ known_of over shape all a a.asks) (own-later bank)
+      recorded =
+          all-first (λ (a : Asked n). outcome a.row ≡ known_of over shape all a a.asks) (own-later bank) (own bank)
+          (subst (λ (asked : List (Asked n)). All (λ (a : Asked n). outcome a.row ≡ known_of over shape all a a.asks) asked) (own-all bank)
+          (subst (λ (xs : List (TimedEvent n m)). All (λ (a : Asked n). outcome a.row ≡ known_of over shape xs a a.asks)
+          (asked_of (home raw seed) (number raw seed) bank (asked_for (later ++ events)))) (parts bank) (goes.recorded bank exists)))
+
+      each : All (λ (a : Asked n). accepts (outcome a.row) ≡ false) (own-later bank)
+      each = λ k d below.
+          ap accepts (recorded k d below)
+          ∙ rejected shape (pacing_in raw) e (h bank) exhausted all lawful over (since bank) refl (own-later bank) (own bank) asked (then-goes.asked bank exists) k d below
+
+  -- so the lines that answer the row tell the truth
+  bank-line : (whole : List (StreamAsked n)) → later ++ events ≡ events_in whole → (tick bank : ℕ) → bank < known.module_.shape.banks
+      → IsTrueMark raw seed whole outcome (length events) (Bank tick (backlog_of bank (bank_at known.module_ bank)))
+  bank-line whole same tick bank there marked exists k behind is =
+      no-write bank exists (by (slice_get known.module_.banks bank) (known.served.replays.banks bank there) (marked-exhausted _ _ marked)) k behind
+      (subst (λ (es : List (Event n)). is_asked_of (home raw seed) bank (asked_for es) k ≡ true) (sym same) is)
+    where
+      by : (o : Option (ClockState n m e)) → IsSomeAnd o (ReplaysIn known.module_ bank (h bank) (asked_for events) known.array results)
+          → (unwrap_or o (first_bank known.module_.shape bank)).bank.kept.exhausted ≡ true → has_exhausted (core (h bank)) ≡ true
+      by None in_bank marked = absurd in_bank
+      by (Some clock) in_bank marked = sym in_bank.leads.holds.exhausted ∙ marked
+
+  banks-lines : (whole : List (StreamAsked n)) → later ++ events ≡ events_in whole → (tick banks : ℕ) → banks ≤ known.module_.shape.banks
+      → All (IsTrueMark raw seed whole outcome (length events)) (banks_told known.module_ tick banks)
+  banks-lines whole same tick zero few = All-nil (IsTrueMark raw seed whole outcome (length events))
+  banks-lines whole same tick (suc bank) few =
+      All-append (IsTrueMark raw seed whole outcome (length events)) (banks_told known.module_ tick bank) (Bank tick (backlog_of bank (bank_at known.module_ bank)) ∷ [])
+      (banks-lines whole same tick bank (omega (arith, few)))
+      (All-cons (IsTrueMark raw seed whole outcome (length events)) (Bank tick (backlog_of bank (bank_at known.module_ bank))) []
+      (bank-line whole same tick bank (omega (arith, few))) (All-nil (IsTrueMark raw seed whole outcome (length events))))
+
+  pub true-marks : (whole : List (StreamAsked n)) → later ++ events ≡ events_in whole → All (IsTrueMark raw seed whole outcome (length events)) (lines_of row known.module_ known.array)
+  true-marks whole same = by row
+    where
+      by : (row : StreamAsked n) → All (IsTrueMark raw seed whole outcome (length events)) (lines_of row known.module_ known.array)
+      by (IsEvent event) = All-nil (IsTrueMark raw seed whole outcome (length events))
+      by (Settle tick) = All-cons (IsTrueMark raw seed whole outcome (length events)) (Settled tick) [] tt (All-nil (IsTrueMark raw seed whole outcome (length events)))
+      by (Query tick) =
+          All-append (IsTrueMark raw seed whole outcome (length events)) (banks_told known.module_ tick known.module_.shape.banks) (Settled tick ∷ [])
+          (banks-lines whole same tick known.module_.shape.banks (omega arith))
+          (All-cons (IsTrueMark raw seed whole outcome (length events)) (Settled tick) [] tt (All-nil (IsTrueMark raw seed whole outcome (length events))))
+      by (Look tick) =
+          All-cons (IsTrueMark raw seed whole outcome (length events)) (Looked tick (wear_of e known.array)) (Settled tick ∷ []) tt
+          (All-cons (IsTrueMark raw seed whole outcome (length events)) (Settled tick) [] tt (All-nil (IsTrueMark raw seed whole outcome (length events))))
+      by (Until until) = All-cons (IsTrueMark raw seed whole outcome (length events)) (Settled until.reached) [] tt (All-nil (IsTrueMark raw seed whole outcome (length events)))
+
   pub in-turn : TellsInTurn raw seed row before (outcome_in results) outcome
   in-turn = record {
     known = record { told = λ k. (each-known k).0; stays = λ k. (each-known k).1 };
@@ -150,6 +252,18 @@ module _ {n m : ℕ} (e : ℕ) (raw : RawShape) (seed : ℕ) (is : IsShape raw) 
         (subst (λ (events : List (Event n)). Goes e over raw seed whole (asked_for events) outcome) (ap events_in same ∙ events-both later (row ∷ before)) goes),
   )
 
+  pub all-marks : (later asked : List (StreamAsked n)) (h since : ℕ → List (TimedEvent n m)) (told : List (Told n)) (along : TellsAlong e raw seed asked h told) → all ≡ later ++ asked
+      → ((bank : ℕ) → whole bank ≡ since bank ++ h bank) → AreMarksTrue e raw seed all outcome asked h told along
+  all-marks later [] h since told along same parts = tt
+  all-marks later (row ∷ before) h since told along same parts =
+      let events : events_in all ≡ events_in later ++ events_in (row ∷ before) = ap events_in same ∙ events-both later (row ∷ before) in (
+        all-marks (later ++ row ∷ []) before along.0 (λ bank. since bank ++ along.3 bank) along.1 along.2 (same ∙ sym (append_assoc later (row ∷ []) before))
+            (λ bank.
+            parts bank ∙ ap (λ (h : ℕ → List (TimedEvent n m)). since bank ++ h bank) along.4 ∙ sym (append_assoc (since bank) (along.3 bank) (along.0 bank))),
+        true-marks e raw seed is row before h told along.7 (events_in later) since whole parts over outcome first
+            (subst (λ (events : List (Event n)). Goes e over raw seed whole (asked_for events) outcome) events goes) all (sym events),
+      )
+
 pub ended_turn_law : EndedTurnLaw
 ended_turn_law n m e raw seed off asked module_ array places told is ended =
     all-in-turn e raw seed is asked (λ bank. ended.finished.0 bank ++ ended.history bank) true (outcome_in (table_of places told)) refl
@@ -159,6 +273,23 @@ ended_turn_law n m e raw seed off asked module_ array places told is ended =
 pub turn_law : TurnLaw
 turn_law n m e raw seed asked h module_ array told is along served =
     all-in-turn e raw seed is asked h false (outcome_in table) refl
+    (subst (λ (k : ℕ). Goes e false raw k h (asked_for (events_in asked)) (outcome_in table)) served.seeded
+    (subst (λ (r : RawShape). Goes e false r module_.seed h (asked_for (events_in asked)) (outcome_in table)) served.shape
+    (goes-so-far h (asked_for (events_in asked)) module_ array table served.replays)))
+    [] asked h (λ bank. []) told along refl (λ bank. refl)
+  where
+    table : List (Outcome n)
+    table = table_of (length (events_in asked)) told
+
+pub ended_mark_law : EndedMarkLaw
+ended_mark_law n m e raw seed off asked module_ array places told is ended =
+    all-marks e raw seed is asked (λ bank. ended.finished.0 bank ++ ended.history bank) true (outcome_in (table_of places told)) refl
+    (goes-finished raw seed off (λ bank. ended.finished.0 bank ++ ended.history bank) (asked_for (events_in asked)) (bank_at module_) array (outcome_in (table_of places told)) ended.finished.1)
+    [] asked ended.history ended.finished.0 ended.said ended.along refl (λ bank. refl)
+
+pub mark_law : MarkLaw
+mark_law n m e raw seed asked h module_ array told is along served =
+    all-marks e raw seed is asked h false (outcome_in table) refl
     (subst (λ (k : ℕ). Goes e false raw k h (asked_for (events_in asked)) (outcome_in table)) served.seeded
     (subst (λ (r : RawShape). Goes e false r module_.seed h (asked_for (events_in asked)) (outcome_in table)) served.shape
     (goes-so-far h (asked_for (events_in asked)) module_ array table served.replays)))

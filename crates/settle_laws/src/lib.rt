@@ -2,6 +2,7 @@
 //! the rest comes from that tick on. And what it has told behind each row, bank by bank. A law is what a function here ensures; the functions do nothing when they run.
 #![tactic(auto)]
 
+ghost use Rattle.settle_laws.specs.Marks.{EndedMarkLaw, MarkLaw};
 ghost use Rattle.settle_laws.specs.Settles.{SettledLaw, SoFarLaw};
 ghost use Rattle.settle_laws.specs.Streams.{BegunStreamLaw, WholeStreamLaw};
 ghost use Rattle.settle_laws.specs.Turns.{EndedTurnLaw, TurnLaw};
@@ -36,4 +37,10 @@ pub fn outcomes_are_told_in_turn()
 /// So it is while a stream goes on, of what is known by now.
 pub fn outcomes_are_told_in_turn_so_far()
     ensures { TurnLaw }
+{}
+
+/// Of a bank that a query tells as exhausted no write that comes later is accepted.
+pub fn exhausted_banks_accept_nothing()
+    ensures ended { EndedMarkLaw }
+    ensures so_far { MarkLaw }
 {}

@@ -22,13 +22,13 @@ use Rattle.stream_top.specs.Streams.{BeginsInPart, BreaksOff, ComeFrom, GoesAsFa
 use Rattle.stream_top.specs.{Streams.{stops_at_refusal, told_in_part}, declared.done.Done.Done, declared.fault.Fault.Fault}
 use Rattle.stream_top.specs.declared.fault.Fault.TheVariants.{Usage, Trace, Read, Write, TooLong, NoMemory}
 use Rattle.moment_laws.specs.Moments.{MomentLaw}
-use Rattle.settle_laws.specs.{Streams.{BegunStreamLaw, WholeStreamLaw}, Turns.{EndedTurnLaw, TurnLaw}}
+use Rattle.settle_laws.specs.{Marks.{EndedMarkLaw, MarkLaw}, Streams.{BegunStreamLaw, WholeStreamLaw}, Turns.{EndedTurnLaw, TurnLaw}}
 use Rattle.snapshot_laws.specs.Rising.{EndedLaw, SoFarLaw}
 use Rattle.stream_promise.specs.Promise.{BeginsInPartByRows, BreakByRows, BreaksByRows, BreaksOnRows, ComeByRows, DoesByRows, DoesOnRows, EndsInPartByRows, EndsRows, GoesOnTo}
 use Rattle.stream_promise.specs.Promise.{IsServedByRows, IsServedInPartByRows, LastSnapshotLaw, PromisesByRows, StopByRows, StopsByRows, StopsOnRows, StreamsByRows, rows_so_far}
 use Rattle.stream_promise.specs.Rows.{is_refusal_told}
-use Rattle.stream_promise.proofs.Rows.{adds, by-rows, counts-rows, cut-same, end-where, in-turn-by-rows, looks-at, rows-of, shows-at, snaps-by-rows, without-refusal, without-refusal-before}
-use Rattle.stream_promise.proofs.Spares.{used-alike}
+use Rattle.stream_promise.proofs.Rows.{adds, by-rows, counts-rows, cut-same, end-where, in-turn-by-rows, looks-at, marks-by-rows, rows-of, shows-at, snaps-by-rows, without-refusal}
+use Rattle.stream_promise.proofs.{Rows.without-refusal-before, Spares.used-alike}
 use Rattle.bank_timing.specs.Extending.{outcome_in}
 use Rattle.pcm_module.specs.{Roles.spares_used, State.bank_at}
 
@@ -39,6 +39,8 @@ pub record StreamLaws (S : Type 0) : Type 0 where
   pub begun : BegunStreamLaw S
   pub ended_turns : EndedTurnLaw
   pub turns : TurnLaw
+  pub ended_marks : EndedMarkLaw
+  pub marks : MarkLaw
   pub ended_rises : EndedLaw
   pub so_far_rises : SoFarLaw
 
@@ -89,6 +91,9 @@ module _ {S : Type 0} (laws : StreamLaws S) (n m e : ℕ) (job : StreamJob) (sou
           in_turn =
               in-turn-by-rows e job.shape job.seed laws.moment served.lawful.shape asked served.ended.history served.ended.said served.ended.along (outcome_in (table_of served.places told))
               (laws.ended_turns n m e job.shape job.seed (stays_off (is_off job.end) served.asked) asked served.module_ served.before served.places told served.lawful.shape served.ended);
+          marks =
+              marks-by-rows e job.shape job.seed laws.moment served.lawful.shape asked (outcome_in (table_of served.places told)) asked served.ended.history served.ended.said served.ended.along
+              (laws.ended_marks n m e job.shape job.seed (stays_off (is_off job.end) served.asked) asked served.module_ served.before served.places told served.lawful.shape served.ended);
           ends = served.ended.ends;
           before = served.before;
           sensed = served.sensed;
@@ -131,6 +136,9 @@ module _ {S : Type 0} (laws : StreamLaws S) (n m e : ℕ) (job : StreamJob) (sou
           in_turn =
               in-turn-by-rows e job.shape job.seed laws.moment served.lawful.shape asked served.history told served.along (outcome_in (table_of (length (events_in asked)) told))
               (laws.turns n m e job.shape job.seed asked served.history served.module_ array told served.lawful.shape served.along served.left);
+          marks =
+              marks-by-rows e job.shape job.seed laws.moment served.lawful.shape asked (outcome_in (table_of (length (events_in asked)) told)) asked served.history told served.along
+              (laws.marks n m e job.shape job.seed asked served.history served.module_ array told served.lawful.shape served.along served.left);
           looks = looks-at e job.shape job.seed laws.moment served.lawful.shape served.module_ array asked served.history told served.along served.now;
           snapshots = served.snapshots;
           snaps = snaps-by-rows e job.shape job.seed laws.moment served.lawful.shape (shown_by job.shape job.print) asked served.history told served.along served.snapshots served.snaps;

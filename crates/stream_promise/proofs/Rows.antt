@@ -14,9 +14,9 @@ use Rattle.row_stream.specs.{Looking.{IsSnapshot, wear_of}, Refusing.{EndsBehind
 use Rattle.row_stream.specs.{Serving.{AreKnown, IsToldOf, SnapsAlong, Telling, TellsAlong, is_due_behind, lines_of}, declared.stop.Behind.Behind}
 use Rattle.row_stream.specs.declared.stop.Behind.TheVariants.{Nothing, Going, Off}
 use Rattle.moment_laws.specs.{Backlogs.CountsBacklog, Moments.{LosesNothing, MomentLaw, rows_now}}
-use Rattle.settle_laws.specs.Turns.{AreInTurn}
-use Rattle.stream_promise.specs.Rows.{AreAnswers, AreInTurnByRows, AreOfBanks, CountsRows, EndWhere, NoneWasBefore, RowsTold, SnapsByRows, TellsByRows, WithoutRefusal}
-use Rattle.stream_promise.specs.Rows.{LooksAt, ShowsAt, WithoutRefusalBefore, before_cut, before_cut_if}
+use Rattle.settle_laws.specs.{Marks.AreMarksTrue, Turns.AreInTurn}
+use Rattle.stream_promise.specs.Rows.{AreAnswers, AreInTurnByRows, AreMarksTrueByRows, AreOfBanks, CountsRows, EndWhere, NoneWasBefore, RowsTold, SnapsByRows, TellsByRows}
+use Rattle.stream_promise.specs.Rows.{LooksAt, ShowsAt, WithoutRefusal, WithoutRefusalBefore, before_cut, before_cut_if}
 
 -- ---- lines
 
@@ -138,6 +138,11 @@ module _ {n m : ℕ} (e : ℕ) (raw : RawShape) (seed : ℕ) (moment : MomentLaw
       → AreInTurn e raw seed asked h told along in_the_end → AreInTurnByRows raw seed asked told (by-rows asked h told along) in_the_end
   in-turn-by-rows [] h told along in_the_end are = tt
   in-turn-by-rows (row ∷ before) h told along in_the_end are = (in-turn-by-rows before along.0 along.1 along.2 in_the_end are.0, are.1)
+
+  pub marks-by-rows : (whole : List (Asked n)) (in_the_end : ℕ → Outcome n) (asked : List (Asked n)) (h : ℕ → List (TimedEvent n m)) (told : List (Told n)) (along : TellsAlong e raw seed asked h told)
+      → AreMarksTrue e raw seed whole in_the_end asked h told along → AreMarksTrueByRows raw seed whole in_the_end asked told (by-rows asked h told along)
+  marks-by-rows whole in_the_end [] h told along are = tt
+  marks-by-rows whole in_the_end (row ∷ before) h told along are = (marks-by-rows whole in_the_end before along.0 along.1 along.2 are.0, are.1)
 
   -- ---- the last row
 

@@ -29,7 +29,8 @@ use Rattle.stream_top.specs.{declared.done.Done.Done, declared.done.Done.TheVari
 use Rattle.moment_laws.specs.Moments.{rows_now}
 use Rattle.settle_laws.specs.Settles.{SettlesForGood, SettlesSoFar}
 use Rattle.snapshot_laws.specs.Rising.{NeverFall}
-use Rattle.stream_promise.specs.Rows.{AreInTurnByRows, CountsRows, EndWhere, LooksAt, RowsTold, ShowsAt, SnapsByRows, TellsByRows, WithoutRefusal, WithoutRefusalBefore, before_cut, is_refusal_told}
+use Rattle.stream_promise.specs.Rows.{AreInTurnByRows, AreMarksTrueByRows, CountsRows, EndWhere, LooksAt, RowsTold, ShowsAt, SnapsByRows, TellsByRows, WithoutRefusal, WithoutRefusalBefore}
+use Rattle.stream_promise.specs.Rows.{before_cut, is_refusal_told}
 
 -- lines of n bytes with m check bytes and e error-correcting pointers
 module _ {S : Type 0} (n m e : ℕ) (job : StreamJob) (source : LentSource S) where
@@ -73,6 +74,7 @@ module _ {S : Type 0} (n m e : ℕ) (job : StreamJob) (source : LentSource S) wh
     pub each : TellsEach places told
     pub in_time : SettlesForGood (with_cut (is_off job.end) asked) places told
     pub in_turn : AreInTurnByRows job.shape job.seed (with_cut (is_off job.end) asked) along.told along.rows (outcome_in (table_of places told))
+    pub marks : AreMarksTrueByRows job.shape job.seed (with_cut (is_off job.end) asked) (outcome_in (table_of places told)) (with_cut (is_off job.end) asked) along.told along.rows
     pub ends : ℕ → BankEnd
     pub before : ArrayState n m
     pub sensed : ℕ
@@ -104,6 +106,7 @@ module _ {S : Type 0} (n m e : ℕ) (job : StreamJob) (source : LentSource S) wh
     pub once : TellsOnce (length (events_in asked)) (outcomes_in told)
     pub in_time : SettlesSoFar asked told
     pub in_turn : AreInTurnByRows job.shape job.seed asked told rows (outcome_in (table_of (length (events_in asked)) told))
+    pub marks : AreMarksTrueByRows job.shape job.seed asked (outcome_in (table_of (length (events_in asked)) told)) asked told rows
     pub looks : LooksAt e array asked told
     pub snapshots : List Snapshot
     pub snaps : SnapsByRows job.shape job.seed (shown_by job.shape job.print) asked told rows snapshots

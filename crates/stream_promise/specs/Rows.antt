@@ -1,5 +1,5 @@
 -- What a stream tells row by row, said of its rows and its lines alone. What was asked stands with the newest row first.
-use Rattle.std.specs.Prelude.{◌≡◌, ◌⊎◌, ℕ, zero, suc, Bool, true, false, List, [], ◌∷◌, ◌++◌, length}
+use Rattle.std.specs.Prelude.{◌≡◌, ◌⊎◌, ℕ, zero, suc, Bool, true, false, List, [], ◌∷◌, ◌++◌, All, length}
 use Rattle.cell_rows.specs.Device.{ArrayState}
 use Rattle.result_rows.specs.declared.Outcome.{Outcome}
 use Rattle.bank_timing.specs.Extending.{outcome_in}
@@ -13,7 +13,7 @@ use Rattle.trace_stream.specs.{Asked.events_in, declared.asked.Asked.Asked, decl
 use Rattle.row_stream.specs.{Asking.{behind_of, cut_if, tick_reached, with_cut}, Reaching.ReachesBy, Serving.{ComeInOrder, is_due_behind}, declared.stop.Behind.Behind}
 use Rattle.row_stream.specs.{Looking.wear_of, declared.stop.Behind.TheVariants.{Nothing, Going, Off}}
 use Rattle.moment_laws.specs.{Backlogs.CountsBacklog, Moments.rows_now}
-use Rattle.settle_laws.specs.Turns.{TellsInTurn}
+use Rattle.settle_laws.specs.{Marks.IsTrueMark, Turns.TellsInTurn}
 
 module _ {n : ℕ} (raw : RawShape) (seed : ℕ) where
   -- the lines of the first so many banks at a tick, one of each, in their order: how many of the bank's rows wait there, by these rows as they stand
@@ -104,6 +104,13 @@ AreInTurnByRows raw seed [] told rows in_the_end = Unit {0}
 AreInTurnByRows raw seed (row ∷ before) told rows in_the_end =
     AreInTurnByRows raw seed before rows.0 rows.1 in_the_end
     × TellsInTurn raw seed row before (outcome_in (table_of (length (events_in (row ∷ before))) told)) in_the_end
+
+-- a bank that a query told as exhausted accepts no write that comes later, by what became in the end of all these rows
+abbrev pub AreMarksTrueByRows : {n : ℕ} (raw : RawShape) (seed : ℕ) (whole : List (Asked n)) (in_the_end : ℕ → Outcome n) (asked : List (Asked n)) (told : List (Told n))
+    → TellsByRows raw seed asked told → Type 0
+AreMarksTrueByRows raw seed whole in_the_end [] told rows = Unit {0}
+AreMarksTrueByRows raw seed whole in_the_end (row ∷ before) told rows =
+    AreMarksTrueByRows raw seed whole in_the_end before rows.0 rows.1 × All (IsTrueMark raw seed whole in_the_end (length (events_in (row ∷ before)))) rows.4
 
 -- where the last row was a look, its line says how worn this array is
 abbrev pub LooksAt : {n m : ℕ} → ℕ → ArrayState n m → List (Asked n) → List (Told n) → Type 0

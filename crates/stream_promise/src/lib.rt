@@ -11,7 +11,8 @@ ghost use Rattle.stream_promise.specs.Promise.{LastSnapshotLaw, PromisesByRows};
 use moment_laws::no_moment_loses_bytes;
 use pcm_io::{Sink, Source};
 use settle_laws::{
-    outcomes_are_told_in_turn, outcomes_are_told_in_turn_so_far, streams_settle_for_good,
+    exhausted_banks_accept_nothing, outcomes_are_told_in_turn, outcomes_are_told_in_turn_so_far,
+    streams_settle_for_good,
 };
 use snapshot_laws::{snapshots_never_fall, snapshots_never_fall_so_far};
 use std::alloc::Global;
@@ -47,6 +48,7 @@ pub fn run_stream<
     streams_settle_for_good::<S>();
     outcomes_are_told_in_turn();
     outcomes_are_told_in_turn_so_far();
+    exhausted_banks_accept_nothing();
     snapshots_never_fall();
     snapshots_never_fall_so_far();
     stream_run(alloc, words, array, wide, source, out, err)
