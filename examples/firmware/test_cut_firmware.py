@@ -234,13 +234,14 @@ class Firmware(unittest.TestCase):
     def test_jobs_share_the_cuts_and_tell_the_same(self):
         image = HERE / "images" / "FLIP_FIRST_AT_BOOT.elf"
         words = [*MODULE, "--powerloss", "exhaustive", "--every", "9", "--show", "3"]
+        wanted = None
         for jobs in (1, 3, 40):
             paths = self.room / f"{jobs}.csv", self.room / f"{jobs}.rows"
             status, out, err = said(image, *words, "--jobs", jobs, "--table", paths[0], "--rows", paths[1])
             told = status, out, err, paths[0].read_text(), paths[1].read_text()
             self.assertEqual(told[0::2][:2], (1, ""))
-            self.assertEqual(told, told if jobs == 1 else wanted)
-            wanted = told
+            wanted = wanted or told
+            self.assertEqual(told, wanted)
         self.assertEqual(said(image, *MODULE[:6], "--jobs", "3", "--lo", "1", "--hi", "1", "--spares", "0", "--operations", "64")[::2],
                          (2, "cut-firmware: the module is worn out: a worn line found no spare\n"))
 

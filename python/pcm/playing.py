@@ -2,7 +2,6 @@
 import contextlib
 import fcntl
 import os
-import pathlib
 import shutil
 import signal
 import subprocess
