@@ -107,7 +107,9 @@ fn a_text_holds_what_was_pushed(rt: HostRuntime) -> Result<(), Fail> {
 #[test]
 fn a_reader_of_std_is_adapted(rt: HostRuntime) -> Result<(), Fail> {
     let mut source = StdSource::new(b"0,R,0,".as_slice());
-    let read = read_all(rt.alloc(), &mut source, 100).ok().ok_or("no bytes")?;
+    let read = read_all(rt.alloc(), &mut source, 100)
+        .ok()
+        .ok_or("no bytes")?;
     assert_text(&rt, read.as_slice(), b"0,R,0,");
     Ok(())
 }
