@@ -32,7 +32,7 @@ static inline enum pcm_result pcm_copy(struct pcm *from, struct pcm *to, pcm_tak
 
 /* From here on: how. Messages go over a socket that keeps them apart. To the program: `f`, with the descriptors of a copy: its standard input,
    its standard output, its own such socket, and perhaps its standard error; and `q`: it ends at once. From it: `h` once it can be copied; of a
-   copy its process and the number of an error; and as it ends `e` and its status. */
+   copy its process and the number of an error; as it ends `e` and its status, or `q` where it was broken off. */
 
 /* What the program says of a copy. */
 struct pcm__copied {

@@ -212,7 +212,7 @@ static void what_cannot_be_copied_is_told(const char *library, const char *const
     check(pcm_open_copied(&whole, words, "pcm_copy.so") == PCM_FAILED && errno == EINVAL && is_closed(&whole), "a library by its name alone");
     check(pcm_open_copied(&whole, none, library) == PCM_FAILED && errno == ENOENT && is_closed(&whole), "a program that isn't there");
     check(pcm_open_copied(&whole, ends, library) == PCM_OK && pcm_copy(&whole, &copy, NULL, NULL) == PCM_ENDED && is_closed(&copy), "a program that ends");
-    check(pcm_close(&whole) == 1 || pcm_close(&whole) == -1, "it is closed");
+    check(pcm_close(&whole) == 1, "its status");
     check(pcm_open_copied(&whole, wrong, library) == PCM_OK && pcm_copy(&whole, &copy, NULL, NULL) == PCM_ENDED && is_closed(&copy), "wrong words");
     check(pcm_finish(&whole) == PCM_OK && pcm_close(&whole) == 2, "their status");
     check(pcm_open_copied(&whole, words, "/dev/null") == PCM_OK && pcm_copy(&whole, &copy, NULL, NULL) == PCM_FAILED && errno == ENOTSUP && is_closed(&copy), "a library that is none");
