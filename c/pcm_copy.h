@@ -32,7 +32,7 @@ static inline enum pcm_result pcm_copy(struct pcm *from, struct pcm *to, pcm_tak
 
 /* From here on: how. Messages go over a socket that keeps them apart. To the program: `f`, with the descriptors of a copy: its standard input,
    its standard output, its own such socket, and perhaps its standard error; and `q`: it ends at once. From it: `h` once it can be copied; of a
-   copy its process and the number of an error; and as it ends `e` and its status. */
+   copy its process and the number of an error; as it ends `e` and its status, or `q` where it was broken off. */
 
 /* What the program says of a copy. */
 struct pcm__copied {
@@ -57,6 +57,27 @@ static inline char **pcm__variables(char *one, char *two)
     return all;
 }
 
+/* Two ends of a socket that keeps messages apart, neither of them 0, 1 or 2, which the caller may have closed. */
+static inline int pcm__asked_by(int ends[2])
+{
+    int made[2];
+    ends[0] = ends[1] = -1;
+    if (socketpair(AF_UNIX, SOCK_SEQPACKET | PCM__CLOEXEC, 0, made) != 0)
+        return -1;
+    for (int i = 0; i < 2; i++) {
+        ends[i] = made[i] > 2 ? made[i] : fcntl(made[i], F_DUPFD, 3);
+        if (ends[i] != made[i])
+            close(made[i]);
+    }
+    if (ends[0] >= 0 && ends[1] >= 0 && fcntl(ends[0], F_SETFD, FD_CLOEXEC) == 0 && fcntl(ends[1], F_SETFD, FD_CLOEXEC) == 0)
+        return 0;
+    for (int i = 0; i < 2; i++)
+        if (ends[i] >= 0)
+            close(ends[i]);
+    ends[0] = ends[1] = -1;
+    return -1;
+}
+
 static inline enum pcm_result pcm_open_copied(struct pcm *pcm, const char *const words[], const char *library)
 {
     char number[32], path[4096];
@@ -69,26 +90,19 @@ static inline enum pcm_result pcm_open_copied(struct pcm *pcm, const char *const
         errno = strpbrk(library, " :") != NULL || strchr(library, '/') == NULL ? EINVAL : ENOENT;
         return PCM_FAILED;
     }
-    if (socketpair(AF_UNIX, SOCK_SEQPACKET | PCM__CLOEXEC, 0, ends) != 0)
+    if (pcm__asked_by(ends) != 0)
         return PCM_FAILED;
-    for (int i = 0; i < 2; i++)
-        if (ends[i] < 3) { /* (the caller has closed its own: the program's go there) */
-            int moved = fcntl(ends[i], F_DUPFD, 3);
-            close(ends[i]);
-            ends[i] = moved >= 0 && fcntl(moved, F_SETFD, FD_CLOEXEC) == 0 ? moved : -1;
-        }
     snprintf(number, sizeof number, "PCM_COPY=%d", ends[1]);
-    char **variables = ends[0] < 0 || ends[1] < 0 ? NULL : pcm__variables(path, number);
+    char **variables = pcm__variables(path, number);
     const struct pcm__how how = {0, variables, ends[1]};
     if (variables != NULL)
         result = pcm__open(pcm, words, &how);
     int fault = errno;
     free(variables);
-    if (ends[1] >= 0)
-        close(ends[1]);
+    close(ends[1]);
     if (result == PCM_OK)
         pcm->control = ends[0];
-    else if (ends[0] >= 0)
+    else
         close(ends[0]);
     errno = fault;
     return result;
@@ -125,9 +139,11 @@ static inline enum pcm_result pcm__ask_copy(int control, const int fds[3])
     with->cmsg_type = SCM_RIGHTS;
     with->cmsg_len = CMSG_LEN(3 * sizeof(int));
     memcpy(CMSG_DATA(with), fds, 3 * sizeof(int));
-    if (sendmsg(control, &message, MSG_NOSIGNAL) != 1)
-        return errno == EPIPE || errno == ECONNRESET ? PCM_ENDED : PCM_FAILED;
     ssize_t got;
+    while ((got = sendmsg(control, &message, MSG_NOSIGNAL)) < 0 && errno == EINTR)
+        ;
+    if (got != 1)
+        return errno == EPIPE || errno == ECONNRESET ? PCM_ENDED : PCM_FAILED;
     while ((got = recv(control, &told, sizeof told, 0)) < 0 && errno == EINTR)
         ;
     if (got >= 0 && got != (ssize_t)sizeof told)
@@ -151,7 +167,7 @@ static inline enum pcm_result pcm_copy(struct pcm *from, struct pcm *to, pcm_tak
     if (pcm__pair(in, 0) != 0)
         return PCM_FAILED;
     result = PCM_FAILED;
-    if (pcm__pair(out, 1) == 0 && socketpair(AF_UNIX, SOCK_SEQPACKET | PCM__CLOEXEC, 0, more) == 0 && fcntl(in[1], F_SETFL, O_NONBLOCK) == 0) {
+    if (pcm__pair(out, 1) == 0 && pcm__asked_by(more) == 0 && fcntl(in[1], F_SETFL, O_NONBLOCK) == 0) {
         const int fds[3] = {in[0], out[1], more[1]};
         result = pcm__ask_copy(from->control, fds);
     }

@@ -1044,14 +1044,16 @@ static inline enum pcm_result pcm_finish(struct pcm *pcm)
     return PCM_OK;
 }
 
-/* Closes what copies are asked by, once the program has ended; the status that it told of itself, or -1. */
+/* Closes what copies are asked by, once the program has ended: the status that it told of itself, -1 where it told none, and -2 where it was
+   broken off. */
 static inline int pcm__part(struct pcm *pcm)
 {
     unsigned char told[16];
     int status = -1;
     ssize_t got;
-    while (pcm->control > 0 && ((got = recv(pcm->control, told, sizeof told, 0)) > 0 || (got < 0 && errno == EINTR)))
-        status = got == 2 && told[0] == 'e' ? told[1] : status;
+    /* (a reset is told before what came before it, where the program didn't take what it was asked) */
+    while (pcm->control > 0 && ((got = recv(pcm->control, told, sizeof told, 0)) > 0 || (got < 0 && (errno == EINTR || errno == ECONNRESET))))
+        status = got == 2 && told[0] == 'e' ? told[1] : got == 1 && told[0] == 'q' ? -2 : status;
     if (pcm->control > 0)
         close(pcm->control);
     pcm->control = pcm->is_heard = 0;
@@ -1069,19 +1071,20 @@ static inline void pcm__drop(struct pcm *pcm, size_t most)
 static inline int pcm_close(struct pcm *pcm)
 {
     int status = 0, is_finished = pcm->to <= 0;
-    int is_broken_off = !is_finished && pcm->control > 0 && send(pcm->control, "q", 1, MSG_NOSIGNAL) == 1;
+    /* (a module that can be copied ends as it is asked to; another goes on to its end, as long as somebody takes what it says) */
+    int is_asked = !is_finished && pcm->control > 0 && send(pcm->control, "q", 1, MSG_NOSIGNAL) == 1;
     if (!is_finished)
         close(pcm->to);
     pcm->to = -1;
-    if (pcm->from > 0 && !is_broken_off)
+    if (pcm->from > 0 && !is_asked)
         pcm__drop(pcm, is_finished ? SIZE_MAX : PCM_MOST_LEFT);
     pcm__shut(pcm);
     int told = pcm__part(pcm);
     pid_t ended = -1;
     while (pcm->process > 0 && (ended = waitpid(pcm->process, &status, 0)) < 0 && errno == EINTR)
         ;
-    if (pcm->process <= 0 || is_broken_off)
-        status = is_broken_off ? -1 : told;
+    if (pcm->process <= 0 || told == -2)
+        status = told < 0 ? -1 : told;
     else
         status = ended > 0 && WIFEXITED(status) ? WEXITSTATUS(status) : -1;
     pcm->process = -1;

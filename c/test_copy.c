@@ -212,7 +212,7 @@ static void what_cannot_be_copied_is_told(const char *library, const char *const
     check(pcm_open_copied(&whole, words, "pcm_copy.so") == PCM_FAILED && errno == EINVAL && is_closed(&whole), "a library by its name alone");
     check(pcm_open_copied(&whole, none, library) == PCM_FAILED && errno == ENOENT && is_closed(&whole), "a program that isn't there");
     check(pcm_open_copied(&whole, ends, library) == PCM_OK && pcm_copy(&whole, &copy, NULL, NULL) == PCM_ENDED && is_closed(&copy), "a program that ends");
-    check(pcm_close(&whole) == 1 || pcm_close(&whole) == -1, "it is closed");
+    check(pcm_close(&whole) == 1, "its status");
     check(pcm_open_copied(&whole, wrong, library) == PCM_OK && pcm_copy(&whole, &copy, NULL, NULL) == PCM_ENDED && is_closed(&copy), "wrong words");
     check(pcm_finish(&whole) == PCM_OK && pcm_close(&whole) == 2, "their status");
     check(pcm_open_copied(&whole, words, "/dev/null") == PCM_OK && pcm_copy(&whole, &copy, NULL, NULL) == PCM_FAILED && errno == ENOTSUP && is_closed(&copy), "a library that is none");
@@ -236,6 +236,24 @@ static void a_copy_without_processes(const char *library, const char *const word
     check(pcm_close(&whole) == -1 && descriptors() == before, "no descriptor stays open");
 }
 
+static void standard_descriptors_may_be_closed(const char *library, const char *const words[])
+{
+    int status = 0;
+    fflush(NULL);
+    pid_t child = fork();
+    if (child == 0) {
+        close(0);
+        close(1);
+        close(2);
+        int told = pcm_open_copied(&whole, words, library) == PCM_OK && whole.control > 2 && pcm_copy(&whole, &copy, NULL, NULL) == PCM_OK;
+        told = told && copy.control > 2 && pcm_copy(&copy, &second, NULL, NULL) == PCM_OK && second.to > 2 && second.from > 2 && second.control > 2;
+        told = told && pcm_read(&second, 5, 1) == PCM_OK && pcm_finish(&second) == PCM_OK && pcm_close(&second) == 0;
+        told = told && pcm_finish(&copy) == PCM_OK && pcm_close(&copy) == 0 && pcm_finish(&whole) == PCM_OK && pcm_close(&whole) == 0;
+        _exit(told ? 0 : 1);
+    }
+    check(child > 0 && waitpid(child, &status, 0) == child && status == 0, "a caller without standard input and output");
+}
+
 int main(int count, char **words)
 {
     const char *all[20] = {0};
@@ -252,6 +270,7 @@ int main(int count, char **words)
     copies_end_with_their_caller(words[1], all);
     what_cannot_be_copied_is_told(words[1], all);
     a_copy_without_processes(words[1], all);
+    standard_descriptors_may_be_closed(words[1], all);
     printf("%d passed, %d failed\n", passed, failed);
     return failed != 0;
 }

@@ -53,7 +53,7 @@ class Copied:
             try:
                 told = self._control.recv(16)
             except ConnectionResetError:
-                told = b""  # (it ended before it took what it was asked)
+                continue  # (it ended before it took what it was asked: what it told stands behind that)
             if told[:1] == b"e":
                 self.returncode = told[1]
             elif not told:

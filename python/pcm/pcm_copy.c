@@ -91,8 +91,10 @@ static void serve(void)
         return;
     }
     struct cmsghdr *with = CMSG_FIRSTHDR(&message);
-    if (byte == 'q')
+    if (byte == 'q') {
+        send(control, "q", 1, MSG_NOSIGNAL | MSG_DONTWAIT);
         _exit(0);
+    }
     while (with != NULL && count > ASKS && with->cmsg_len != CMSG_LEN((size_t)count * sizeof(int)))
         count--;
     if (byte != 'f' || with == NULL || with->cmsg_type != SCM_RIGHTS || count <= ASKS)
