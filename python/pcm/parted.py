@@ -229,6 +229,12 @@ class Folder:
             left.unlink(missing_ok=True)
         return self.path / f"new.{part}.{os.getpid()}"
 
+    def forget_pieces(self) -> None:
+        """Takes away what a trace was split into."""
+        for kind in ("trace", "index"):
+            for left in self.path.glob(f"{kind}.*.*"):
+                left.unlink(missing_ok=True)
+
     def _read(self, name: str) -> "Optional[Dict]":
         try:
             text = (self.path / name).read_text(encoding="utf-8")

@@ -18,7 +18,8 @@ b mod P = K, all cuts, and all that settles.
   --progress       standard error tells how far it is, also where that isn't a terminal
 
 With a folder whose trace was split `--folder FOLDER` is enough: it knows the rest. Without one the trace is split on its way to all parts
-at once, and what they print is kept in a temporary folder until all is joined. So a trace may have more rows than one stream takes, as long as each part has no more.
+at once, and what they print is kept in a temporary folder (TMPDIR says where) until all is joined. A trace may have more rows than one
+stream takes, as long as no part has.
 
 Not in parts: --print snapshots (they are due by numbers of rows of the whole trace; a look, `tick,L,,`, is joined), --until refused (which
 row is the first of all no part knows), and a settle until, `tick,U,ROW,`, which is told at its row, before anything is printed.
@@ -38,7 +39,7 @@ from typing import Callable, Dict, Iterator, List, Optional, Sequence
 from .errors import UsageError, error_of
 from .joining import join
 from .parted import Asked, Broken, Folder, Split, trace_of
-from .playing import NotPlain, SplitFailed, passes, plain_passes, play_from_files, play_on_the_way, split_to_files
+from .playing import NotPlain, Run, SplitFailed, passes, plain_passes, play_from_files, play_on_the_way, split_to_files
 from .program import command
 from .progress import Progress
 from .tables import answered
@@ -167,13 +168,13 @@ class _Call:
         self.progress = Progress(True if "progress" in given.flags else None)
 
     @functools.cached_property
-    def splitter(self) -> List[str]:
+    def passing(self) -> List[str]:
         """The words that start a pass. (Nobody waits for the compiler where none is made.)"""
         return self._held.enter_context(passes("python" not in self.given.flags))
 
-    def words(self) -> "tuple[List[str], List[str]]":
-        """The words that start a stream, and a pass behind it."""
-        return command("stream"), self.splitter
+    def run(self, folder: Folder, asked: Asked, plays: bool = True) -> Run:
+        """A run in parts, whose program is built first where it plays and that isn't built."""
+        return Run(folder, asked, command("stream") if plays else [], self.passing, self.passing)
 
     @contextlib.contextmanager
     def source(self, asked: Asked) -> Iterator[int]:
@@ -187,17 +188,18 @@ class _Call:
             with open(asked.trace, "rb", buffering=0) as file:
                 yield file.fileno()
 
-    def split_by(self, asked: Asked, work: "Callable[[int, List[str]], Split]") -> Split:
+    def split_by(self, run: Run, work: "Callable[[Run, int], Split]") -> Split:
         """Does something with a splitter: in Python where the fast one doesn't take the trace, if that can be read again."""
+        asked = run.asked
         with self.source(asked) as source:
             try:
                 try:
-                    return work(source, self.splitter)
+                    return work(run, source)
                 except NotPlain:
                     if not _is_file(source):
                         raise
                     os.lseek(source, 0, os.SEEK_SET)
-                    return work(source, plain_passes())
+                    return work(run._replace(splitter=plain_passes()), source)
             except SplitFailed as wrong:
                 if wrong.line.startswith("trace row ") and wrong.line.count(" ") == 3:
                     raise error_of(3, wrong.line.encode(), ["stream", *asked.words()], asked.trace or _standard_input()) from None
@@ -215,13 +217,13 @@ class _Call:
 
     def split(self, folder: Folder, asked: Asked) -> Split:
         """Splits the trace into a folder, unless it is there."""
-        def work(source: int, passing: List[str]) -> Split:
+        def work(run: Run, source: int) -> Split:
             pieces = 1
             if not asked.is_drawn and _is_file(source) and os.lseek(source, 0, os.SEEK_CUR) == 0:
                 pieces = self.given.number("pieces", 1, 64) or max(1, min(self.jobs, 64, os.fstat(source).st_size // _LEAST_PIECE))
-            return split_to_files(folder, asked, source, passing, self.tell_reading(source), pieces)
+            return split_to_files(run, source, self.tell_reading(source), pieces)
 
-        return folder.split() or self.split_by(asked, work)
+        return folder.split() or self.split_by(self.run(folder, asked, False), work)
 
     def play(self, folder: Folder, asked: Asked, split: Split, parts: Sequence[int]) -> None:
         """Plays these parts."""
@@ -233,19 +235,17 @@ class _Call:
         def tell(done: int, read: int) -> None:
             self.progress.tell(lambda: f"{done} of {len(parts)} parts played, {100 * read / whole:.0f}%")
 
-        play_from_files(folder, asked, split, parts, self.jobs, self.words(), tell)
+        if parts:
+            play_from_files(self.run(folder, asked), split, parts, self.jobs, tell)
 
     def play_at_once(self, folder: Folder, asked: Asked) -> Split:
         """Plays all parts while the trace is split."""
-        words = self.words()
-        return self.split_by(
-            asked, lambda source, passing: play_on_the_way(folder, asked, source, words, passing, self.tell_reading(source))
-        )
+        return self.split_by(self.run(folder, asked), lambda run, source: play_on_the_way(run, source, self.tell_reading(source)))
 
     def join(self, folder: Folder, asked: Asked, split: Split) -> int:
         """Prints what all parts told; answers the status of one stream."""
         self.progress.clear()
-        return join(folder, asked, split.rows, self.splitter, sys.stdout.buffer)
+        return join(folder, asked, split.rows, self.passing, sys.stdout.buffer)
 
 
 def _is_file(fd: int) -> bool:

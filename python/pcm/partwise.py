@@ -51,7 +51,7 @@ class _Part(NamedTuple):
     """Where the rows of a part go, and what is known of them."""
 
     rows: BinaryIO
-    index: Optional[BinaryIO]
+    known: Optional[BinaryIO]
 
 
 class _Splitter:
@@ -91,7 +91,7 @@ class _Splitter:
             self._parts[part].rows.write(row)
 
     def _note(self, part: int, first: int, line: int) -> None:
-        index = self._parts[part].index
+        index = self._parts[part].known
         if index is None:
             return
         index.write(RECORD.pack(first, line, self._note_passed(index, part, _MOST_PASSED)))
@@ -109,9 +109,9 @@ class _Splitter:
     def end(self) -> str:
         """Closes all files; what is told of them."""
         for number, part in enumerate(self._parts):
-            if part.index:
-                self._note_passed(part.index, number, 0)
-                part.index.close()
+            if part.known:
+                self._note_passed(part.known, number, 0)
+                part.known.close()
             part.rows.flush()
         for part in self._parts:
             part.rows.close()

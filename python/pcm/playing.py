@@ -7,7 +7,7 @@ import signal
 import subprocess
 import sys
 import time
-from typing import BinaryIO, Callable, Dict, Iterator, List, Optional, Sequence, Tuple
+from typing import BinaryIO, Callable, Dict, Iterator, List, NamedTuple, Optional, Sequence
 
 from .compiling import compiled
 from .errors import PcmError
@@ -43,6 +43,16 @@ def passes(in_c: bool) -> Iterator[List[str]]:
 def plain_passes() -> List[str]:
     """The words that start a pass in Python."""
     return [sys.executable, "-IB", _PARTWISE]
+
+
+class Run(NamedTuple):
+    """A run in parts: where they stand, what was asked for, and the words that start a stream, the pass that splits, and other passes."""
+
+    folder: Folder
+    asked: Asked
+    stream: List[str]
+    splitter: List[str]
+    passing: List[str]
 
 
 class _Process:
@@ -85,16 +95,13 @@ class Playing:
     """A part that is being played: its stream and what stands behind it, into a file of the folder. Its trace comes from an open file, or
     from its pieces, so many, in the folder."""
 
-    def __init__(
-        self, folder: Folder, asked: Asked, part: int, words: Tuple[List[str], List[str]], source: Optional[int] = None, pieces: int = 1
-    ) -> None:
-        self.part, self._folder = part, folder
-        stream, passing = words
-        self._new = folder.forget_new(part)
-        line = [[*stream, *asked.words()], *_behind(folder, asked, part, passing, pieces)]
+    def __init__(self, run: Run, part: int, source: Optional[int] = None, pieces: int = 1) -> None:
+        self.part, self._folder = part, run.folder
+        self._new = run.folder.forget_new(part)
+        line = [[*run.stream, *run.asked.words()], *_behind(run, part, pieces)]
         self._is_fed = source is None
         if self._is_fed:
-            line.insert(0, ["cat", *(str(folder.piece("trace", part, piece)) for piece in range(pieces))])
+            line.insert(0, ["cat", *(str(run.folder.piece("trace", part, piece)) for piece in range(pieces))])
         self._processes: List[_Process] = []
         try:
             with _starting(f"part {part}"), open(self._new, "wb") as out:
@@ -105,14 +112,12 @@ class Playing:
 
     def _start(self, line: List[List[str]], source: int, out: BinaryIO) -> None:
         """Starts processes, each of which reads what the one before it writes."""
-        given: "int | BinaryIO" = source
         for at, one in enumerate(line):
+            given = self._processes[-1].running.stdout if at else source
             to = out if at == len(line) - 1 else subprocess.PIPE
-            process = _Process(one, stdin=given, stdout=to, env={**os.environ, "LC_ALL": "C"})
-            self._processes.append(process)
+            self._processes.append(_Process(one, stdin=given, stdout=to, env={**os.environ, "LC_ALL": "C"}))
             if at:
                 given.close()
-            given = process.running.stdout
 
     def ended(self) -> bool:
         """Whether all of it has ended; a failure is raised."""
@@ -144,8 +149,9 @@ class Playing:
         self._new.unlink(missing_ok=True)
 
 
-def _behind(folder: Folder, asked: Asked, part: int, passing: List[str], pieces: int) -> List[List[str]]:
+def _behind(run: Run, part: int, pieces: int) -> List[List[str]]:
     """What stands behind the stream of a part."""
+    asked, folder, passing = run.asked, run.folder, run.passing
     numbers = [str(asked.parts), str(part)]
     if asked.kind in KEPT:
         return [[*passing, "keep", *numbers]]
@@ -160,43 +166,24 @@ def _behind(folder: Folder, asked: Asked, part: int, passing: List[str], pieces:
     return [[*passing, "place", "--by-number", *numbers, *index], [sort, "-S", "64M", "-T", str(folder.path)]]
 
 
-def _wait(splitting: "_Splitting", parts: List[Playing], tell: Callable[[], None]) -> None:
-    """Until the trace is split, and the parts are played."""
-    left = list(parts)
-    while True:
-        try:
-            left = [it for it in left if not it.ended()]
-        except PartFailed:
-            # (a part that gets no more of its trace fails, too)
-            with contextlib.suppress(subprocess.TimeoutExpired):
-                splitting.running.wait(_SOON)
-            if splitting.status in (None, 0, *_UNREAD):
-                raise
-        if not left or splitting.status not in (None, *_UNREAD):
-            if splitting.ended() and not left:
-                return
-        tell()
-        time.sleep(_TICK)
-
-
 @contextlib.contextmanager
-def _ending(started: "List[Playing | _Process]") -> Iterator[None]:
+def _ending(*started: "Sequence[Playing | _Process]") -> Iterator[None]:
     """All that was started is at an end behind this."""
     try:
         yield
     finally:
-        for it in started:
-            it.end()
+        for some in started:
+            for it in some:
+                it.end()
 
 
 class _Splitting(_Process):
     """The pass that splits a trace."""
 
-    def __init__(
-        self, folder: Folder, asked: Asked, source: int, passing: List[str], fds: Sequence[int] = (), piece: Optional[Piece] = None
-    ) -> None:
-        to = ",".join(map(str, fds)) or str(folder.path / "trace.")
-        super().__init__([*passing, *asked.splitting(folder.path, to, piece)], stdin=source, stdout=subprocess.PIPE, pass_fds=fds)
+    def __init__(self, run: Run, source: int, fds: Sequence[int] = (), piece: Optional[Piece] = None) -> None:
+        to = ",".join(map(str, fds)) or str(run.folder.path / "trace.")
+        words = run.asked.splitting(run.folder.path, to, piece)
+        super().__init__([*run.splitter, *words], stdin=source, stdout=subprocess.PIPE, pass_fds=fds)
 
     def ended(self) -> bool:
         """Whether it has ended well; a fault of the trace is raised."""
@@ -219,25 +206,29 @@ class SplitFailed(PcmError):
 
 def _split_failure(status: int, line: str) -> SplitFailed:
     if status < 0:
-        return SplitFailed(_BROKEN_OFF, "the splitter was ended by signal " + str(-status))
+        return SplitFailed(_BROKEN_OFF, f"the splitter was ended by signal {-status}")
     row, _, kind = line.partition(": ")
     if kind == "until":
         return SplitFailed(3, f"{row}: a settle until ends at a tick that one bank decides for all: such a trace isn't split")
     return SplitFailed(status, line)
 
 
-def split_to_files(folder: Folder, asked: Asked, source: int, passing: List[str], tell: Callable[[], None], pieces: int = 1) -> Split:
+def split_to_files(run: Run, source: int, tell: Callable[[], None], pieces: int = 1) -> Split:
     """Splits the trace into files of the folder, so many pieces of it side by side. Where one has a fault, or isn't plain, all of it is split
     as one: so the first fault is told."""
+    folder, parts = run.folder, run.asked.parts
     before = folder.was_split()
+    folder.forget_pieces()
     try:
-        split = _split_pieces(folder, asked, source, passing, tell, _pieces_of(source, pieces))
+        split = _split_pieces(run, source, tell, _pieces_of(source, pieces))
     except (SplitFailed, NotPlain) as wrong:
         if pieces == 1 or wrong.status != 3:
             raise
+        folder.forget_pieces()
         os.lseek(source, 0, os.SEEK_SET)
-        split = _split_pieces(folder, asked, source, passing, tell, [])
-    if before is not None and (before.rows, before.counts) != (split.rows, split.counts) and folder.missing(asked.parts) != list(range(asked.parts)):
+        split = _split_pieces(run, source, tell, [])
+    is_other = before is not None and (before.rows, before.counts) != (split.rows, split.counts)
+    if is_other and len(folder.missing(parts)) < parts:
         raise SplitFailed(3, f"{folder.path} has parts of another trace: name another folder")
     folder.note_split(split)
     return split
@@ -260,19 +251,20 @@ def _pieces_of(source: int, count: int) -> List[Piece]:
     return [Piece(number, *bound) for number, bound in enumerate(zip(bounds, bounds[1:]))]
 
 
-def _split_pieces(
-    folder: Folder, asked: Asked, source: int, passing: List[str], tell: Callable[[], None], pieces: List[Piece]
-) -> Split:
+def _split_pieces(run: Run, source: int, tell: Callable[[], None], pieces: List[Piece]) -> Split:
     """Splits a file's pieces side by side, or all of a source."""
-    started: "List[Playing | _Process]" = []
+    folder, asked = run.folder, run.asked
+    started: List[_Splitting] = []
     with _ending(started), _starting("the splitter"), contextlib.ExitStack() as files:
         for piece in pieces:
             # (each of them reads from a place of its own)
             own = files.enter_context(open(f"/proc/self/fd/{source}", "rb", buffering=0))
-            started.append(_Splitting(folder, asked, own.fileno(), passing, piece=piece))
+            started.append(_Splitting(run, own.fileno(), piece=piece))
         if not pieces:
-            started.append(_Splitting(folder, asked, source, passing))
-        while not all([it.ended() for it in started]):
+            started.append(_Splitting(run, source))
+        left = started
+        while left:
+            left = [it for it in left if not it.ended()]
             tell()
             time.sleep(_TICK)
         told = [it.told() for it in started]
@@ -281,90 +273,118 @@ def _split_pieces(
     if any(one[1] > other[0] for one, other in zip(ticks, ticks[1:])):
         raise SplitFailed(3, "ticks fall")
     if pieces and ticks and asked.value("end") == "off" and not ticks[-1][2]:
-        _add_cut(folder, asked, whole, ticks[-1][1], len(pieces) - 1)
-    return Split(whole.rows, whole.counts, [folder.sizes(part, len(told)) for part in range(asked.parts)])
+        _add_cut(run, whole, ticks[-1][1], len(pieces) - 1)
+    return Split(whole.rows, whole.counts, [[size or 0 for size in folder.sizes(part, len(told))] for part in range(asked.parts)])
 
 
-def _add_cut(folder: Folder, asked: Asked, whole: Told, tick: int, piece: int) -> None:
+def _add_cut(run: Run, whole: Told, tick: int, piece: int) -> None:
     """Adds the cut with which the power goes to the last piece of each part."""
     whole.rows += 1
-    for part in range(asked.parts):
+    for part in range(run.asked.parts):
         whole.counts[part] += 1
-        with open(folder.piece("trace", part, piece), "ab") as file:
+        with open(run.folder.piece("trace", part, piece), "ab") as file:
             file.write(f"{tick},C,,\n".encode())
-        if asked.kind in PLACED:
-            with open(folder.piece("index", part, piece), "ab") as file:
+        if run.asked.kind in PLACED:
+            with open(run.folder.piece("index", part, piece), "ab") as file:
                 file.write(RECORD.pack(tick << 9 | CUT, 0, 1))
 
 
-def play_on_the_way(
-    folder: Folder, asked: Asked, source: int, words: Tuple[List[str], List[str]], splitter: List[str], tell: Callable[[], None]
-) -> Split:
+def _wait(splitting: "_Splitting", parts: List[Playing], tell: Callable[[], None]) -> None:
+    """Until the trace is split, and the parts are played."""
+    left = list(parts)
+    while True:
+        try:
+            left = [it for it in left if not it.ended()]
+        except PartFailed:
+            # (a part that gets no more of its trace fails, too)
+            with contextlib.suppress(subprocess.TimeoutExpired):
+                splitting.running.wait(_SOON)
+            if splitting.status in (None, 0, *_UNREAD):
+                raise
+        if not left or splitting.status not in (None, *_UNREAD):
+            if splitting.ended() and not left:
+                return
+        tell()
+        time.sleep(_TICK)
+
+
+def play_on_the_way(run: Run, source: int, tell: Callable[[], None]) -> Split:
     """Plays all parts at once, while the trace is split."""
-    started: "List[Playing | _Process]" = []
-    with _ending(started), _starting("all parts at once"), contextlib.ExitStack() as files:
-        fds, parts = [], []
-        for part in range(asked.parts):
-            if asked.kind in PLACED:
+    parts: List[Playing] = []
+    splitters: List[_Splitting] = []
+    with _ending(splitters, parts), _starting("all parts at once"), contextlib.ExitStack() as files:
+        pipes = []
+        for part in range(run.asked.parts):
+            if run.asked.kind in PLACED:
                 # (read while it is written: what is read of it is there by then)
-                folder.piece("index", part, 0).touch()
+                run.folder.piece("index", part, 0).touch()
             reads, writes = os.pipe()
-            fds.append(files.enter_context(open(writes, "wb", buffering=0)))
+            pipes.append(files.enter_context(open(writes, "wb", buffering=0)))
             with open(reads, "rb", buffering=0) as given:
                 with contextlib.suppress(OSError):
                     fcntl.fcntl(writes, _SET_PIPE_SIZE, _PIPE)
-                parts.append(Playing(folder, asked, part, words, given.fileno()))
-            started.append(parts[-1])
-        numbers = [it.fileno() for it in fds]
-        splitting = _Splitting(folder, asked, source, splitter, numbers)
-        started.insert(0, splitting)
+                parts.append(Playing(run, part, given.fileno()))
+        splitters.append(_Splitting(run, source, [it.fileno() for it in pipes]))
         files.close()
-        _wait(splitting, parts, tell)
-        told = splitting.told()
+        _wait(splitters[0], parts, tell)
+        told = splitters[0].told()
         return Split(told.rows, told.counts, [])
 
 
-def play_from_files(
-    folder: Folder, asked: Asked, split: Split, missing: Sequence[int], jobs: int, words: Tuple[List[str], List[str]],
-    tell: Callable[[int, int], None],
-) -> None:
+class _Batch:
+    """Parts that are played from files, some at a time."""
+
+    def __init__(self, run: Run, split: Split, files: contextlib.ExitStack) -> None:
+        self._run, self._split, self._files = run, split, files
+        self.running: Dict[int, Playing] = {}
+        self._sources: Dict[int, BinaryIO] = {}
+        self.failed: List[PcmError] = []
+        self.done, self._read = 0, 0
+
+    def start(self, part: int) -> None:
+        """Lets a part begin."""
+        pieces, source = len(self._split.sizes[part]), None
+        if pieces == 1:
+            file = open(self._run.folder.piece("trace", part, 0), "rb", buffering=0)
+            self._sources[part] = self._files.enter_context(file)
+            source = file.fileno()
+        self.running[part] = Playing(self._run, part, source, pieces)
+
+    def look(self) -> None:
+        """Takes out those that have ended."""
+        for part, one in list(self.running.items()):
+            try:
+                if not one.ended():
+                    continue
+            except PcmError as wrong:
+                self.failed.append(wrong)
+            one.end()
+            del self.running[part]
+            if part in self._sources:
+                self._sources.pop(part).close()
+            self._read += sum(self._split.sizes[part])
+            self.done += 1
+
+    @property
+    def read(self) -> int:
+        """The bytes of traces that were read, as far as that is known."""
+        return self._read + sum(os.lseek(it.fileno(), 0, os.SEEK_CUR) for it in self._sources.values())
+
+
+def play_from_files(run: Run, split: Split, missing: Sequence[int], jobs: int, tell: Callable[[int, int], None]) -> None:
     """Plays these parts, so many at a time; of those that fail the first is told behind the others."""
-    left, running, failed = list(missing), {}, []
-    started: "List[Playing | _Process]" = []
-    done, read, sources = 0, 0, {}
-    with _ending(started), contextlib.ExitStack() as files:
-        while left or running:
-            while left and len(running) < jobs:
-                part = left.pop(0)
-                running[part] = _started(folder, asked, part, split, words, sources, files)
-                started.append(running[part])
-            for part, one in list(running.items()):
-                try:
-                    is_done = one.ended()
-                except PcmError as wrong:
-                    failed.append(wrong)
-                    one.end()
-                    is_done = True
-                if is_done:
-                    del running[part]
-                    if part in sources:
-                        sources.pop(part).close()
-                    read += sum(split.sizes[part])
-                    done += 1
-            tell(done, read + sum(os.lseek(it.fileno(), 0, os.SEEK_CUR) for it in sources.values()))
-            if running:
+    left = list(missing)
+    with contextlib.ExitStack() as files:
+        batch = _Batch(run, split, files)
+        try:
+            while left or batch.running:
+                while left and len(batch.running) < jobs:
+                    batch.start(left.pop(0))
                 time.sleep(_TICK)
-    if failed:
-        raise failed[0]
-
-
-def _started(
-    folder: Folder, asked: Asked, part: int, split: Split, words: Tuple[List[str], List[str]], sources: Dict[int, BinaryIO],
-    files: contextlib.ExitStack,
-) -> Playing:
-    """A part that begins, and among the sources the file that it reads, where that is one."""
-    pieces = len(split.sizes[part])
-    if pieces > 1:
-        return Playing(folder, asked, part, words, pieces=pieces)
-    sources[part] = files.enter_context(open(folder.piece("trace", part, 0), "rb", buffering=0))
-    return Playing(folder, asked, part, words, sources[part].fileno())
+                batch.look()
+                tell(batch.done, batch.read)
+        finally:
+            for one in batch.running.values():
+                one.end()
+        if batch.failed:
+            raise batch.failed[0]
