@@ -234,18 +234,16 @@ class Builds(unittest.TestCase):
             self.assertEqual(((out / "stamp").read_text(), [it.name for it in (out / f"{it}.rlib").iterdir()]), (f"stamp-of-{it}", ["format"]))
         self.assertFalse((self.room.top / "crates" / "pcm_cli" / "out").exists())
 
-    def test_what_proofs_said_is_noted_of_the_gate_and_else_what_the_kit_says_of_them(self):
-        asked = f"cd '{self.room.top}' && RT_JOBS=1 rt ci | tools/build --note"
-        (self.room.top / "crates.txt").write_text("first:\npcm_stream: first\n")
-        told = subprocess.run(["bash", "-c", asked], env=self.room.around, capture_output=True, text=True)
-        self.assertIn("rt: pcm_stream proved\n", told.stdout, told.stderr)
-        shutil.rmtree(self.room.top / "crates/first/out")
+    def test_what_proofs_said_is_noted_and_else_what_the_kit_says_of_them(self):
         lines = lambda: [it.read_text() for it in sorted((self.room.cache / "leqallqu" / "lines").iterdir())]
-        self.assertEqual(lines(), ["logic=proved functions=1\n"] * 2)
+        self.build("pcm_stream")
+        said = lines()
+        self.assertEqual(set(said), {"logic=proved functions=1\n"})
+        self.room.called()
         shutil.rmtree(self.room.cache)
         self.build("--kept", "pcm_stream")
-        self.assertEqual(self.room.called(), ["first", "pcm_stream"])
-        self.assertEqual(lines(), ["is kept: an earlier run on this machine proved the same files over the same libraries\n"] * 2)
+        self.assertEqual(self.room.called(), [])
+        self.assertEqual(lines(), ["is kept: an earlier run on this machine proved the same files over the same libraries\n"] * len(said))
 
     def test_the_gate_runs_the_tests_behind_the_proofs_and_not_where_these_fail(self):
         (self.room.top / ".ci").mkdir()
