@@ -79,8 +79,8 @@ struct pcm_disk {
     uint32_t waiting;        /* writes that are accepted and neither stored nor merged, as far as is known */
     int worn;                /* not 0: a bank takes no writes any more, and the disk only reads */
     /* From here on the disk's own. */
-    uint32_t key[3], low_bits, high_bits;           /* of the randomiser: its keys, and the bits of its halves */
-    uint32_t bank_bits, region_bits, line_bits;     /* those of a bank's number, a region's in its bank, and a line's in its region */
+    struct pcm_randomiser randomiser;
+    uint32_t bank_bits, region_bits, line_bits;     /* of a bank's number, a region's in its bank, and a line's in its region */
     uint32_t sectors, free_block;   /* with `atomic`: how many there are, and which of the sectors + 1 blocks of lines holds none of them */
     uint32_t writes[PCM_DISK_BANKS], reads[PCM_DISK_BANKS]; /* how many of each wait in a bank, as far as is known */
     struct pcm_disk_queued queue[PCM_DISK_BANKS][PCM_DISK_QUEUE]; /* those writes, in the order in which the bank stores them */
@@ -153,19 +153,9 @@ static inline uint64_t pcm_disk__try(const struct pcm_disk *disk)
     return disk->shape.read_ticks + (uint64_t)(disk->shape.line == 64 ? 160 : 208) * disk->shape.iter_ticks;
 }
 
-/* A round of the randomiser: what a half of so many bits is xored with, by the other half and a key. (Halves have at most 13 bits, keys 16.) */
-static inline uint32_t pcm_disk__round(uint32_t half, uint32_t key, uint32_t bits)
-{
-    return (half ^ key) * (half ^ key) & ((UINT32_C(1) << bits) - 1);
-}
-
 static inline uint32_t pcm_disk_bank(const struct pcm_disk *disk, uint32_t line)
 {
-    uint32_t left = line >> disk->low_bits, right = line ^ left << disk->low_bits;
-    left ^= pcm_disk__round(right, disk->key[0], disk->high_bits);
-    right ^= pcm_disk__round(left, disk->key[1], disk->low_bits);
-    left ^= pcm_disk__round(right, disk->key[2], disk->high_bits);
-    return (left << disk->low_bits | right) >> (disk->region_bits + disk->line_bits);
+    return pcm__bank_of(&disk->randomiser, line);
 }
 
 static inline uint32_t pcm_disk_line(const struct pcm_disk *disk, uint32_t line)
@@ -174,11 +164,7 @@ static inline uint32_t pcm_disk_line(const struct pcm_disk *disk, uint32_t line)
         return line;
     uint32_t round = line >> disk->bank_bits, bank = line & (disk->shape.banks - 1), region = round & (disk->shape.regions - 1);
     uint32_t spread = (bank << disk->region_bits | region) << disk->line_bits | round >> disk->region_bits;
-    uint32_t left = spread >> disk->low_bits, right = spread ^ left << disk->low_bits;
-    left ^= pcm_disk__round(right, disk->key[2], disk->high_bits);
-    right ^= pcm_disk__round(left, disk->key[1], disk->low_bits);
-    left ^= pcm_disk__round(right, disk->key[0], disk->high_bits);
-    return left << disk->low_bits | right;
+    return pcm__spread(&disk->randomiser, spread, 2);
 }
 
 /* The part of a read's line that was asked for goes to its caller. */
@@ -625,15 +611,6 @@ static inline int pcm_disk__is_power(uint32_t number, uint32_t least, uint32_t m
     return number >= least && number <= most && (number & (number - 1)) == 0;
 }
 
-/* The binary logarithm of a power of two. */
-static inline uint32_t pcm_disk__bits(uint32_t power)
-{
-    uint32_t bits = 0;
-    while (power >> bits > 1)
-        bits++;
-    return bits;
-}
-
 /* The shape, its randomiser and its sectors. EINVAL where there is no such one. */
 static inline int pcm_disk__shape(struct pcm_disk *disk, const struct pcm_disk_shape *shape)
 {
@@ -643,17 +620,10 @@ static inline int pcm_disk__shape(struct pcm_disk *disk, const struct pcm_disk_s
         || !pcm_disk__is_power(shape->lines, 4, PCM_DISK_LINES) || all > PCM_DISK_LINES || !pcm_disk__is_power(shape->line, 64, PCM_MOST_BYTES)
         || shape->write_queue - 1 >= PCM_DISK_QUEUE || shape->read_queue - 1 >= PCM_DISK_QUEUE)
         return EINVAL;
-    for (uint64_t i = 0; i < 3; i++) {
-        uint64_t word = shape->seed + (i + 1) * UINT64_C(0x9e3779b97f4a7c15);
-        word = (word ^ word >> 30) * UINT64_C(0xbf58476d1ce4e5b9);
-        word = (word ^ word >> 27) * UINT64_C(0x94d049bb133111eb);
-        disk->key[i] = (uint32_t)(word ^ word >> 31) & 0xffff;
-    }
-    disk->bank_bits = pcm_disk__bits(shape->banks);
-    disk->region_bits = pcm_disk__bits(shape->regions);
-    disk->line_bits = pcm_disk__bits(shape->lines);
-    disk->low_bits = (disk->bank_bits + disk->region_bits + disk->line_bits) / 2;
-    disk->high_bits = disk->bank_bits + disk->region_bits + disk->line_bits - disk->low_bits;
+    disk->randomiser = pcm__randomiser(shape->banks, shape->regions * shape->lines, shape->seed);
+    disk->bank_bits = pcm__bits(shape->banks);
+    disk->region_bits = pcm__bits(shape->regions);
+    disk->line_bits = pcm__bits(shape->lines);
     if (shape->atomic == 0)
         return 0;
     if ((shape->atomic != 512 && shape->atomic != PCM_DISK_SECTOR) || bytes < 2 * (uint64_t)shape->atomic + 4)

@@ -58,6 +58,8 @@ extern "C" {
 #define PCM_MOST_ROW 512
 /* So many bytes of answers are held for the caller at least, before PCM_FULL comes. */
 #define PCM_MOST_WAITING 64512
+/* So many bytes pcm_close takes at most without pcm_finish: more than the answers of all that may wait then, in 64 banks and in the pipes. */
+#define PCM_MOST_LEFT (1 << 26)
 /* The last tick, and the last row's number. */
 #define PCM_LAST_TICK (UINT64_C(1) << 40)
 #define PCM_LAST_ROW UINT32_C(4294967294)
@@ -107,6 +109,9 @@ struct pcm_wear {
     uint64_t reset;    /* cells that pulses drove to 0 */
 };
 
+/* The number of no bank. */
+#define PCM_NO_BANK UINT32_MAX
+
 /* What a module is, where the program tells it (`--tell shape`); all 0 until then. */
 struct pcm_shape {
     uint32_t version;     /* of the stream's format: 1 */
@@ -117,6 +122,12 @@ struct pcm_shape {
     uint32_t line;        /* the bytes of a line */
     uint32_t write_queue; /* the writes that a bank's queue holds */
     uint32_t read_queue;  /* the reads that may wait at a bank */
+};
+
+/* What spreads lines over the banks (FORMATS.md, 'The randomiser's words'). */
+struct pcm_randomiser {
+    uint32_t key[3], low_bits, high_bits; /* its keys, and the bits of its halves */
+    uint32_t bank_bits;                   /* those of the number of a bank's lines */
 };
 
 struct pcm_outcome {
@@ -148,10 +159,14 @@ struct pcm {
                               sets it; 0: any */
     int tells_shape;       /* whether the words of pcm_open have `--tell shape`. Where the program was told so otherwise, the caller sets it */
     struct pcm_shape shape; /* behind pcm_learn: what the module is */
+    uint64_t seed;         /* by the words of pcm_open. Where the program was told so otherwise, the caller sets it before any other call */
+    struct pcm_randomiser randomiser; /* behind pcm_learn: that of the shape and the seed */
     uint64_t tick;         /* of the last row or settle; behind pcm_settle_until the one that was reached */
     uint32_t settles;      /* how many were sent, those of calls that take all among them, whose PCM_SETTLED wasn't taken yet */
     pcm_logger log;        /* the caller's, from pcm_open on, which sets it to NULL: each row is handed to it, with `context` */
     void *context;
+    int control;           /* of pcm_copy.h: by what copies are asked for; 0: there are none */
+    int is_heard;          /* of pcm_copy.h: whether the program has said that it can be copied */
     size_t held, begin, end;
     char out[16384];       /* rows that are still to be handed to the program */
     char in[PCM_MOST_WAITING + 2 * PCM_MOST_ROW]; /* answers that were taken from it */
@@ -173,6 +188,9 @@ static inline enum pcm_result pcm_open_apart(struct pcm *pcm, const char *const 
    `wanted` that isn't 0 is another (NULL: all are right); the module goes on. PCM_REFUSED where the program doesn't tell its shape. Call it
    behind pcm_open, or at any time. */
 static inline enum pcm_result pcm_learn(struct pcm *pcm, const struct pcm_shape *wanted);
+/* The bank of a line, behind pcm_learn: whose queue a write or a read of it waits in. PCM_NO_BANK where the shape isn't known, or the module hasn't
+   the line. */
+static inline uint32_t pcm_bank_of(const struct pcm *pcm, uint32_t line);
 /* A write of a whole line, of so many bytes, arrives. The bytes are copied. */
 static inline enum pcm_result pcm_write(struct pcm *pcm, uint64_t tick, uint32_t line, const uint8_t *bytes, size_t size);
 /* A write that gives the bytes for which `given` isn't 0 (at least one) arrives. Both are copied. */
@@ -216,8 +234,9 @@ static inline enum pcm_result pcm_next(struct pcm *pcm, struct pcm_outcome *outc
 static inline enum pcm_result pcm_finish(struct pcm *pcm);
 /* Closes all, waits for the program, and answers its status; -1 where the system tells none, as where it was killed. Behind pcm_finish the answers
    that are left are taken and dropped, and the status is that of all rows: 0, or 1 where some row fell short; 2 where the words are wrong, 3
-   where a row is, 6 where there are too many, 7 where memory ran out. Without pcm_finish rows that wait to be sent are dropped, and nobody takes
-   what the program still says: if it says anything, the status may be 5, with `write fault` on standard error. */
+   where a row is, 6 where there are too many, 7 where memory ran out. Without pcm_finish rows that wait to be sent are dropped, and the status is
+   that of those before; where the program goes on to say more than PCM_MOST_LEFT bytes, nobody takes them, and it is what the program makes of
+   that; a module that can be copied (pcm_copy.h) ends then at once, and the status is -1. */
 static inline int pcm_close(struct pcm *pcm);
 
 /* From here on: how. */
@@ -258,8 +277,15 @@ static inline int pcm__pair(int ends[2], int is_to_take)
     return -1;
 }
 
+/* How a program is started: in a group of its own, by these variables, and with a further descriptor, where that isn't 0. */
+struct pcm__how {
+    int is_apart;
+    char *const *variables;
+    int more;
+};
+
 /* Starts the program over its ends of the streams. 0, or a number of errno.h. */
-static inline int pcm__start(struct pcm *pcm, const char *const words[], int is_apart, int in, int out)
+static inline int pcm__start(struct pcm *pcm, const char *const words[], const struct pcm__how *as, int in, int out)
 {
     posix_spawn_file_actions_t actions;
     posix_spawnattr_t how;
@@ -271,15 +297,17 @@ static inline int pcm__start(struct pcm *pcm, const char *const words[], int is_
         fault = posix_spawn_file_actions_adddup2(&actions, in, 0);
         if (fault == 0)
             fault = posix_spawn_file_actions_adddup2(&actions, out, 1);
-        if (fault == 0 && is_apart)
+        if (fault == 0 && as->more != 0)
+            fault = posix_spawn_file_actions_adddup2(&actions, as->more, as->more);
+        if (fault == 0 && as->is_apart)
             fault = posix_spawnattr_setpgroup(&how, 0);
-        if (fault == 0 && is_apart)
+        if (fault == 0 && as->is_apart)
             fault = posix_spawnattr_setflags(&how, POSIX_SPAWN_SETPGROUP);
         /* (its words are only read, but its type doesn't say so) */
         char *const *lent;
         memcpy(&lent, &words, sizeof lent);
         if (fault == 0)
-            fault = posix_spawnp(&pcm->process, words[0], &actions, &how, lent, environ);
+            fault = posix_spawnp(&pcm->process, words[0], &actions, &how, lent, as->variables);
         posix_spawnattr_destroy(&how);
     }
     posix_spawn_file_actions_destroy(&actions);
@@ -310,7 +338,7 @@ static inline void pcm__shut(struct pcm *pcm)
     errno = fault;
 }
 
-static inline enum pcm_result pcm__open(struct pcm *pcm, const char *const words[], int is_apart)
+static inline enum pcm_result pcm__open(struct pcm *pcm, const char *const words[], const struct pcm__how *how)
 {
     int to[2], from[2];
     memset(pcm, 0, offsetof(struct pcm, out));
@@ -318,6 +346,7 @@ static inline enum pcm_result pcm__open(struct pcm *pcm, const char *const words
     pcm->process = -1;
     pcm->line_size = strcmp(pcm__value(words, "--line", "64"), "128") == 0 ? 128 : 64; /* (the program refuses all other values) */
     pcm->tells_shape = strcmp(pcm__value(words, "--tell", "nothing"), "shape") == 0;
+    pcm->seed = strtoull(pcm__value(words, "--seed", "0"), NULL, 10);
     if (strcmp(pcm__value(words, "--print", "rows"), "rows") != 0) {
         errno = EINVAL;
         return PCM_REFUSED;
@@ -329,7 +358,7 @@ static inline enum pcm_result pcm__open(struct pcm *pcm, const char *const words
         close(to[1]);
         return PCM_FAILED;
     }
-    int fault = pcm__start(pcm, words, is_apart, to[0], from[1]);
+    int fault = pcm__start(pcm, words, how, to[0], from[1]);
     close(to[0]);
     close(from[1]);
     pcm->to = to[1];
@@ -349,12 +378,14 @@ static inline enum pcm_result pcm__open(struct pcm *pcm, const char *const words
 
 static inline enum pcm_result pcm_open(struct pcm *pcm, const char *const words[])
 {
-    return pcm__open(pcm, words, 0);
+    const struct pcm__how how = {0, environ, 0};
+    return pcm__open(pcm, words, &how);
 }
 
 static inline enum pcm_result pcm_open_apart(struct pcm *pcm, const char *const words[])
 {
-    return pcm__open(pcm, words, 1);
+    const struct pcm__how how = {1, environ, 0};
+    return pcm__open(pcm, words, &how);
 }
 
 /* Takes answers into what room there is. */
@@ -741,6 +772,61 @@ static inline enum pcm_result pcm__wear(const char *at, struct pcm_wear *wear)
     return PCM_OK;
 }
 
+/* The binary logarithm of a power of two. */
+static inline uint32_t pcm__bits(uint32_t power)
+{
+    uint32_t bits = 0;
+    while (bits < 31 && power >> bits > 1)
+        bits++;
+    return bits;
+}
+
+/* The randomiser of a module of so many banks, each of so many lines, by its seed. */
+static inline struct pcm_randomiser pcm__randomiser(uint32_t banks, uint32_t lines, uint64_t seed)
+{
+    struct pcm_randomiser it;
+    for (uint64_t i = 0; i < 3; i++) {
+        uint64_t word = seed + (i + 1) * UINT64_C(0x9e3779b97f4a7c15);
+        word = (word ^ word >> 30) * UINT64_C(0xbf58476d1ce4e5b9);
+        word = (word ^ word >> 27) * UINT64_C(0x94d049bb133111eb);
+        it.key[i] = (uint32_t)(word ^ word >> 31) & 0xffff;
+    }
+    it.bank_bits = pcm__bits(lines);
+    it.low_bits = (pcm__bits(banks) + it.bank_bits) / 2;
+    it.high_bits = pcm__bits(banks) + it.bank_bits - it.low_bits;
+    return it;
+}
+
+/* A round: what a half of so many bits is xored with, by the other half and a key. (Halves have at most 13 bits, keys 16.) */
+static inline uint32_t pcm__round(uint32_t half, uint32_t key, uint32_t bits)
+{
+    return (half ^ key) * (half ^ key) & ((UINT32_C(1) << bits) - 1);
+}
+
+/* The three rounds by the keys in their order (`first` is 0), which give where a line goes, counted through the banks, the regions of each and the
+   lines of each of these; or from the last one (`first` is 2), which give the line that goes there. */
+static inline uint32_t pcm__spread(const struct pcm_randomiser *it, uint32_t number, uint32_t first)
+{
+    uint32_t left = number >> it->low_bits, right = number ^ left << it->low_bits;
+    left ^= pcm__round(right, it->key[first], it->high_bits);
+    right ^= pcm__round(left, it->key[1], it->low_bits);
+    left ^= pcm__round(right, it->key[2 - first], it->high_bits);
+    return left << it->low_bits | right;
+}
+
+/* The bank of a line that the module has. */
+static inline uint32_t pcm__bank_of(const struct pcm_randomiser *it, uint32_t line)
+{
+    return pcm__spread(it, line, 0) >> it->bank_bits;
+}
+
+static inline uint32_t pcm_bank_of(const struct pcm *pcm, uint32_t line)
+{
+    const struct pcm_shape *shape = &pcm->shape;
+    int is_here = shape->version != 0 && line < shape->banks * shape->regions * shape->lines;
+    return is_here ? pcm__bank_of(&pcm->randomiser, line) : PCM_NO_BANK;
+}
+
 /* Reads what the module is, behind the word of its line. */
 static inline enum pcm_result pcm__shape(struct pcm *pcm, const char *at)
 {
@@ -752,6 +838,7 @@ static inline enum pcm_result pcm__shape(struct pcm *pcm, const char *at)
                                     (uint32_t)it[3],   (uint32_t)it[4], (uint32_t)it[5], (uint32_t)it[6]};
     pcm->shape = found;
     pcm->line_size = found.line;
+    pcm->randomiser = pcm__randomiser(found.banks, found.regions * found.lines, pcm->seed);
     return PCM_OK;
 }
 
@@ -957,19 +1044,48 @@ static inline enum pcm_result pcm_finish(struct pcm *pcm)
     return PCM_OK;
 }
 
+/* Closes what copies are asked by, once the program has ended; the status that it told of itself, or -1. */
+static inline int pcm__part(struct pcm *pcm)
+{
+    unsigned char told[16];
+    int status = -1;
+    ssize_t got;
+    while (pcm->control > 0 && ((got = recv(pcm->control, told, sizeof told, 0)) > 0 || (got < 0 && errno == EINTR)))
+        status = got == 2 && told[0] == 'e' ? told[1] : status;
+    if (pcm->control > 0)
+        close(pcm->control);
+    pcm->control = pcm->is_heard = 0;
+    return status;
+}
+
+/* Takes what the program still says, and drops it, up to so many bytes: so it goes on to its end. */
+static inline void pcm__drop(struct pcm *pcm, size_t most)
+{
+    ssize_t got = 1;
+    for (size_t all = 0; all < most && (got > 0 || (got < 0 && errno == EINTR)); all += got > 0 ? (size_t)got : 0)
+        got = read(pcm->from, pcm->in, sizeof pcm->in);
+}
+
 static inline int pcm_close(struct pcm *pcm)
 {
-    int status = 0;
-    ssize_t got = 1;
-    /* (behind pcm_finish the program goes on to its end, as long as somebody takes what it says) */
-    while (pcm->to <= 0 && pcm->from > 0 && (got > 0 || (got < 0 && errno == EINTR)))
-        got = read(pcm->from, pcm->in, sizeof pcm->in);
+    int status = 0, is_finished = pcm->to <= 0;
+    int is_broken_off = !is_finished && pcm->control > 0 && send(pcm->control, "q", 1, MSG_NOSIGNAL) == 1;
+    if (!is_finished)
+        close(pcm->to);
+    pcm->to = -1;
+    if (pcm->from > 0 && !is_broken_off)
+        pcm__drop(pcm, is_finished ? SIZE_MAX : PCM_MOST_LEFT);
     pcm__shut(pcm);
+    int told = pcm__part(pcm);
     pid_t ended = -1;
     while (pcm->process > 0 && (ended = waitpid(pcm->process, &status, 0)) < 0 && errno == EINTR)
         ;
+    if (pcm->process <= 0 || is_broken_off)
+        status = is_broken_off ? -1 : told;
+    else
+        status = ended > 0 && WIFEXITED(status) ? WEXITSTATUS(status) : -1;
     pcm->process = -1;
-    return ended > 0 && WIFEXITED(status) ? WEXITSTATUS(status) : -1;
+    return status;
 }
 
 #ifdef __cplusplus

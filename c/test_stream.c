@@ -177,6 +177,57 @@ static void a_close_takes_what_is_left(const char *const words[], int count)
     check(pcm_write_sure(&pcm, 9, 0, bytes, NULL, 64, NULL, NULL) == PCM_REFUSED && is_refused(&pcm), "no call behind it is taken");
 }
 
+/* Without pcm_finish nothing is said on standard error, and a program that doesn't stop saying something is left alone. */
+static void a_close_is_quiet(const char *const words[])
+{
+    static struct pcm pcm;
+    const char *endless[] = {"sh", "-c", "yes 2>/dev/null", NULL};
+    uint8_t bytes[64] = {1};
+    char said;
+    int right = 0, own = dup(2), ends[2];
+    check(own >= 0 && pipe(ends) == 0 && dup2(ends[1], 2) == 2, "standard error is a pipe");
+    for (int i = 0; i < 20; i++) {
+        int sent = pcm_open(&pcm, words) == PCM_OK;
+        for (uint32_t line = 0; line < 3; line++)
+            sent &= pcm_write_sure(&pcm, 0, line, bytes, NULL, 64, NULL, NULL) == PCM_OK;
+        right += sent && pcm_close(&pcm) == 0 && is_refused(&pcm);
+    }
+    dup2(own, 2);
+    close(own);
+    close(ends[1]);
+    check(right == 20 && read(ends[0], &said, 1) == 0, "three writes that wait, and a close");
+    close(ends[0]);
+    check(pcm_open(&pcm, endless) == PCM_OK && pcm_settle_all(&pcm, 0, NULL, NULL) == PCM_GARBLED && pcm_close(&pcm) != 0, "no end");
+}
+
+/* As `pcm map` tells it. */
+static void the_bank_of_a_line(const char *const words[], int count)
+{
+    static struct pcm pcm, map;
+    const char *shaped[20] = {0}, *mapped[20] = {0};
+    const char *more[] = {"--banks=8", "--regions=2", "--lines=64", "--seed", "18446744073709551615", "--tell=shape"};
+    int n = 0, m = 0, right = 0;
+    for (int i = 0; i < count && (i == 0 || strcmp(words[i - 1], "stream") != 0); i++) {
+        shaped[n++] = words[i];
+        mapped[m++] = strcmp(words[i], "stream") == 0 ? "map" : words[i];
+    }
+    for (int i = 0; i < 6; i++)
+        shaped[n++] = more[i];
+    for (int i = 0; i < 5; i++)
+        mapped[m++] = more[i];
+    check(pcm_open(&pcm, shaped) == PCM_OK && pcm_bank_of(&pcm, 0) == PCM_NO_BANK, "without a shape it isn't known");
+    check(pcm_learn(&pcm, NULL) == PCM_OK && pcm_bank_of(&pcm, 1024) == PCM_NO_BANK, "nor of a line that the module hasn't");
+    check(pcm_open(&map, mapped) == PCM_OK && pcm_finish(&map) == PCM_OK, "the module's map");
+    enum pcm_result result;
+    for (const char *text = pcm__line(&map, &result); text != NULL; text = pcm__line(&map, &result)) {
+        char *end;
+        uint32_t line = (uint32_t)strtoul(text, &end, 10);
+        right += end > text && *end == ',' && pcm_bank_of(&pcm, line) == strtoul(end + 1, NULL, 10);
+    }
+    check(pcm_close(&map) == 0 && right == 1024, "each line is in the bank that the map says");
+    check(pcm_close(&pcm) == 0, "status 0");
+}
+
 static void faults_are_told(const char *const words[])
 {
     static struct pcm pcm;
@@ -807,6 +858,8 @@ int main(int count, char **words)
     what_cannot_start_is_told();
     what_prints_no_rows_is_refused(all, n);
     a_close_takes_what_is_left(all, n);
+    a_close_is_quiet(all);
+    the_bank_of_a_line(all, n);
     faults_are_told(all);
     arguments_are_looked_at(all, n);
     writes_are_answered_at_once(all, n);

@@ -268,8 +268,8 @@ def vocabulary():
     """All words of code, definitions, proofs, wrong bodies and scripts, and the names of files and libraries."""
     own = [file for crate in crates.listed().values() for file in crate.files(*crates.PARTS, bodies.GATE, bodies.LATER)]
     scripts = [*TOP.glob("tools/*"), *TOP.glob("bench/*"), *TOP.glob("docs/**/*.py"), TOP / "docs" / "check", TOP / "pcm", TOP / ".ci" / "run"]
-    examples = [it for folder in ("examples", "python", "c") for it in TOP.glob(f"{folder}/**/*") if it.is_file()]
-    texts = [it for it in (*own, *scripts, *examples) if it.is_file() and it.suffix in ("", ".rt", ".antt", ".edit", ".py", ".sh", ".awk", ".c", ".h", ".cpp")]
+    examples = [it for folder in ("examples", "python", "c") for it in TOP.glob(f"{folder}/**/*") if it.is_file() and "out" not in it.parts]
+    texts = [it for it in (*own, *scripts, *examples) if it.is_file() and it.suffix in ("", ".rt", ".antt", ".edit", ".py", ".sh", ".awk", ".c", ".h", ".cpp", ".hpp")]
     names = {part for file in (*texts, *examples) for part in (file.stem, file.parent.name)}
     texts += [it for it in TOP.glob("crates/*/stdin")]
     return words_of(texts) | names | FOREIGN | {it for crate in crates.listed().values() for it in (crate.name, *crate.libraries)}
@@ -280,8 +280,8 @@ def options():
     """The options of the program and of the scripts."""
     texts = [file.read_text(encoding="utf-8") for file in crates.named("command_line").files("src", "specs")]
     scripts = (*TOP.glob("tools/*"), *TOP.glob("bench/*"), *TOP.glob("docs/check*"), *TOP.glob("docs/pictures/*.py"))
-    scripts += (*TOP.glob("examples/**/*"), *TOP.glob("python/pcm/*.py"))
-    texts += [it.read_text(encoding="utf-8") for it in scripts if it.is_file() and it.suffix in ("", ".py", ".sh")]
+    scripts += (*(it for it in TOP.glob("examples/**/*") if "out" not in it.parts), *TOP.glob("python/pcm/*.py"))
+    texts += [it.read_text(encoding="utf-8") for it in scripts if it.is_file() and it.suffix in ("", ".py", ".sh", ".hpp")]
     return {word for text in texts for word in re.findall(r'(?:--|")([a-z][a-z-]+)', text)}
 
 

@@ -6,16 +6,21 @@
                                 lead on, and in a copy of it each recipe works as it is written
     share/man/man1/             pcm.1, pcm-stream.1, pcm-explain.1 and pcm-view.1
     share/bash-completion/completions/pcm, share/zsh/site-functions/_pcm
-    include/                    pcm_stream.h and pcm_disk.h, for drivers in C and C++"""
+    include/                    pcm_stream.h, pcm_disk.h and their like, for drivers in C and C++, and for SystemC
+    bin/cut-firmware            and lib/pcm/pcm_copy.so, where they could be built
+    share/pcm/sv/               for SystemVerilog"""
 import os
 import pathlib
 import re
 import shutil
+import subprocess
+import sys
 
 import crates
 import pages
 
 TOP = crates.TOP
+FIRMWARE = TOP / "examples" / "firmware"
 PROGRAMS = ("pcm_cli", *(f"pcm_{it}" for it in pages.table().ALONE))
 
 
@@ -37,6 +42,27 @@ def texts():
                 yield f"share/pcm/{it.relative_to(TOP)}", it, os.access(it, os.X_OK)
 
 
+def build_firmware():
+    """Builds what cuts the power under firmware, where its tools are here; else it says that it isn't there."""
+    if not FIRMWARE.is_dir():
+        return
+    try:
+        built_it = subprocess.run(["make", "-s", "-C", FIRMWARE], stdout=subprocess.DEVNULL, stderr=subprocess.DEVNULL).returncode == 0
+    except OSError:
+        built_it = False
+    if not built_it:
+        print("cut-firmware is left out: it wants make, g++ and unicorn/unicorn.h (Debian: libunicorn-dev)", file=sys.stderr)
+        for name in ("cut-firmware", "pcm_copy.so"):
+            (FIRMWARE / "out" / name).unlink(missing_ok=True)
+
+
+def firmware():
+    """What cuts the power under firmware, where it is built, as `files` has it."""
+    for name, path, runs in (("cut-firmware", "bin/cut-firmware", True), ("pcm_copy.so", "lib/pcm/pcm_copy.so", False)):
+        if (FIRMWARE / "out" / name).is_file():
+            yield path, FIRMWARE / "out" / name, runs
+
+
 def files():
     """Each file by its path in the tree: its bytes or the file that it is copied from, and whether it is run."""
     yield "bin/pcm", TOP / "pcm", True
@@ -53,6 +79,9 @@ def files():
     yield "share/zsh/site-functions/_pcm", pages.zsh().encode(), False
     for it in sorted((TOP / "c").glob("*.h")):
         yield f"include/{it.name}", it, False
+    yield from firmware()
+    for it in sorted((TOP / "sv").glob("pcm_*")):
+        yield f"share/pcm/sv/{it.name}", it, False
 
 
 # The package looks for the wrapper where a checkout has it.

@@ -567,7 +567,8 @@ class Installed(unittest.TestCase):
     @classmethod
     def setUpClass(cls):
         cls.room = Room()
-        shutil.copytree(TOP / "c", cls.room.top / "c")
+        for folder in ("c", "sv"):
+            shutil.copytree(TOP / folder, cls.room.top / folder)
         cls.prefix = cls.room.folder / "not there" / "a prefix"
         cls.said = [cls.room.run("tools/install", "--prefix", str(cls.prefix)), cls.room.run("tools/dist", str(cls.room.folder))]
         shutil.move(cls.room.top, cls.room.folder / "gone")
@@ -602,6 +603,11 @@ class Installed(unittest.TestCase):
                     self.assertTrue(named in tree or any(it.startswith(f"{named}/") for it in tree), f"{path}: {target}")
         self.assertIn("share/pcm/docs/USING.md", self.pcm("help").stdout)
         self.assertNotIn("./pcm", "".join(self.pcm("help", it).stdout for it in ("run", "stream", "check", "explain", "view")))
+
+    def test_what_drivers_include_is_there_and_no_test(self):
+        there = {str(it.relative_to(self.prefix)) for folder in ("include", "share/pcm/sv") for it in (self.prefix / folder).iterdir()}
+        self.assertEqual(there, {f"include/{it.name}" for it in (TOP / "c").glob("*.h")} | {f"share/pcm/sv/pcm_{it}" for it in ("dpi.sv", "dpi.c", "mem.sv")})
+        self.assertLessEqual({"include/pcm_stream.h", "include/pcm_disk.h", "include/pcm_tlm.h", "include/pcm_tlm_at.h"}, there)
 
     def test_the_package_finds_the_program_beside_it(self):
         words = "import pcm; print(pcm.program())"

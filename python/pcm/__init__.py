@@ -15,7 +15,8 @@ Row by row, over a pipe to its second program, `stream`, with answers as they be
         for outcome in module.settle(1000):
             print(outcome)
 
-`module.settle_until(row, tick)` goes on until a row has its outcome, and no further: `module.tick` is the tick that it reached.
+`module.settle_until(row, tick)` goes on until a row has its outcome, and no further: `module.tick` is the tick that it reached. With
+`copies=True` a module is copied where it stands, by `module.copy()`.
 
 How a module ages, as a stream goes on::
 

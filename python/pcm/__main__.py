@@ -5,11 +5,12 @@ import sys
 if not __package__:
     sys.path[0] = os.path.dirname(os.path.dirname(os.path.abspath(__file__)))
 
-from pcm import differing, energy, explaining, latencies, report
+from pcm import differing, energy, explaining, latencies, parting, report
 
-USAGE = "usage: python3 -m pcm report|energy|latencies|differ|explain .. [options]  (python3 -m pcm COMMAND --help tells more)"
+USAGE = "usage: python3 -m pcm report|energy|latencies|differ|explain|parts .. [options]  (python3 -m pcm COMMAND --help tells more)"
 _COMMANDS = {
     "report": report.main, "energy": energy.main, "latencies": latencies.main, "differ": differing.main, "explain": explaining.main,
+    "parts": parting.main,
 }
 
 

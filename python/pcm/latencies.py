@@ -19,12 +19,12 @@ takes more; the last line says which, and how many rows of the trace have no out
 import argparse
 import contextlib
 import os
-import shutil
 import subprocess
 import sys
 import tempfile
-from typing import BinaryIO, Dict, Iterable, Iterator, List, NamedTuple, Optional, Sequence, Tuple
+from typing import BinaryIO, ContextManager, Dict, Iterable, Iterator, List, NamedTuple, Optional, Sequence, Tuple
 
+from . import compiling
 from .devices import other_times, units_of
 from .drawn import Draw, draw_of, drawn
 from .errors import PcmError, ReadFault, UsageError, error_of
@@ -41,7 +41,6 @@ QUANTILES = (50.0, 90.0, 99.0, 99.9)
 KINDS: "Dict[str, Tuple[str, ...]]" = {
     "reads": ("read", "forwarded"), "read": ("read",), "writes": ("stored", "merged"), "stored": ("stored",),
 }
-_HERE = os.path.dirname(os.path.abspath(__file__))
 
 
 # What is said of a last line that isn't whole: the rows behind it are missing.
@@ -140,18 +139,9 @@ def in_python(arrivals: Iterator[Row], rows: Iterable[bytes]) -> "Counted":
 # The pass.
 
 
-@contextlib.contextmanager
-def compiled(wanted: bool = True) -> "Iterator[Optional[str]]":
+def compiled(wanted: bool = True) -> "ContextManager[Optional[str]]":
     """The pass in C, built by `cc` into a folder that goes behind it; None where that can't be."""
-    compiler = shutil.which("cc") or shutil.which("gcc") or shutil.which("clang")
-    if not wanted or compiler is None:
-        yield None
-        return
-    with tempfile.TemporaryDirectory() as folder:
-        built = os.path.join(folder, "latencies")
-        words = [compiler, "-O2", "-o", built, os.path.join(_HERE, "latencies.c")]
-        done = subprocess.run(words, stdin=subprocess.DEVNULL, stdout=subprocess.DEVNULL, stderr=subprocess.DEVNULL, check=False)
-        yield built if done.returncode == 0 else None
+    return compiling.compiled("latencies", wanted)
 
 
 class Passed(NamedTuple):

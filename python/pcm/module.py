@@ -1,16 +1,19 @@
 """A module that answers as it goes, over a pipe to `pcm stream`."""
 import collections
+import copy
 import os
 import selectors
 import subprocess
 import tempfile
 from types import TracebackType
-from typing import IO, Deque, Iterable, Iterator, List, Optional, Sequence, Type
+from typing import IO, Deque, Iterable, Iterator, List, Optional, Sequence, Type, Union
 
+from .copying import Asks, Copied
 from .errors import PcmError, TraceError, UsageError, error_of
 from .outcomes import Backlog, Outcome, Settled, Shape, Wear, told_of
 from .program import Program, command, words_of
 from .progress import Progress
+from .randomiser import Randomiser
 from .rows import HEADER, MaskedWrite, PowerCut, Read, Row, Write, masked, numbered
 from .words import LARGE, LATEST_TICK, Handed, wrong_row
 
@@ -44,10 +47,14 @@ class Module:
     same options, also into another `Module` (`play`); but with `end="off"`, where a settle came last, its cut comes at the tick of the log's
     last row, unless you end with a `cut` of your own. Where the file's `write` fails, its exception is the call's: the row isn't sent and has
     no number, and the module goes on. Whether such a row stands in the file all the same, as a buffered one may write it later, is the
-    file's to know. The caller closes the file."""
+    file's to know. The caller closes the file.
+
+    With `copies=True` the module can be copied (`copy`): the C compiler `cc` builds a library for that, which is preloaded into the program;
+    or `copies` is the path of one that was built (`make -C c copies`)."""
 
     def __init__(
-        self, *, program: Program = None, progress: Optional[bool] = None, log: Optional[IO[str]] = None, **options: object
+        self, *, program: Program = None, progress: Optional[bool] = None, log: Optional[IO[str]] = None, copies: Union[bool, str] = False,
+        **options: object,
     ) -> None:
         if options.get("print") not in (None, "rows"):
             raise UsageError(2, "a Module tells the outcome of each row; for other prints there are run, snapshots, and the words of pcm.command('stream')")
@@ -65,7 +72,8 @@ class Module:
         self._wear: Optional[Wear] = None
         self._shape: Optional[Shape] = None
         self._tells_shape = options.get("tell") == "shape"
-        self._lines = LARGE.all_lines
+        self._lines, self._seed = LARGE.all_lines, int(str(options.get("seed") or 0))
+        self._randomiser: Optional[Randomiser] = None
         # (the program refuses all other sizes)
         self.line_size: Optional[int] = {"None": 64, "64": 64, "128": 128}.get(str(options.get("line")))
         self.status: Optional[int] = None
@@ -74,12 +82,19 @@ class Module:
         # (whether it waits to hand rows out, whether the program's end was seen, and whether it was closed)
         self._writing = self._ended = self._closed = False
         self._heard = b""
+        self._asks = Asks(copies) if copies else None
         self._said, self._poll = tempfile.TemporaryFile(), selectors.DefaultSelector()
+        self._process: Union[Copied, "subprocess.Popen[bytes]"]
         try:
-            self._process = subprocess.Popen(words, stdin=subprocess.PIPE, stdout=subprocess.PIPE, stderr=self._said)
+            if self._asks is not None:
+                self._process = self._asks.started(words, self._said)
+            else:
+                self._process = subprocess.Popen(words, stdin=subprocess.PIPE, stdout=subprocess.PIPE, stderr=self._said)
         except BaseException:
             self._said.close()
             self._poll.close()
+            if self._asks is not None:
+                self._asks.close()
             raise
         try:
             self._begin()
@@ -107,6 +122,18 @@ class Module:
             self._pump(wait=True)
         self._progress.clear()
         return self._shape
+
+    def bank_of(self, line: int) -> int:
+        """The bank of a line, in whose queue its writes wait, by the `shape`, which it waits for, and the option `seed`. `ValueError` where the shape
+        isn't told, `IndexError` where the module has no such line."""
+        shape = self.shape
+        if shape is None:
+            raise ValueError("the module doesn't tell its shape (tell=\"shape\")")
+        if not 0 <= line < shape.banks * shape.regions * shape.lines:
+            raise IndexError(f"the module has no line {line}")
+        if self._randomiser is None:
+            self._randomiser = Randomiser(shape.banks * shape.regions * shape.lines, self._seed)
+        return self._randomiser.place(line) // (shape.regions * shape.lines)
 
     def write(self, tick: int, line: int, data: bytes) -> int:
         """A write of a whole line arrives at a tick. Answers the row's number."""
@@ -172,6 +199,25 @@ class Module:
         assert self._wear is not None
         return self._wear
 
+    def copy(self) -> "Module":
+        """A module that stands as this one does at its tick, and goes on by itself; it may be copied, too, and is closed by itself. It takes as long
+        behind a million rows as behind one. Outcomes that weren't taken yet are this module's alone, and the copy has no log. `ValueError` where
+        copies weren't asked for, or no rows are taken any more; a `PcmError` where the program has ended or can't be copied."""
+        if self._asks is None:
+            raise ValueError("the module is made without copies=True")
+        self._settle(self.tick, f"{self.tick},S,,\n")
+        made = copy.copy(self)
+        made._process, made._said, made._asks = self._asks.copied()
+        made._poll, made._log, made._tail, made._out, made._heard = selectors.DefaultSelector(), None, b"", bytearray(), b""
+        made._known, made._unread, made._backlogs, made._wear = collections.deque(), collections.deque(), [], None
+        made._progress, made._writing = Progress(self._progress.shown), False
+        try:
+            made._begin()
+        except BaseException:
+            made.close()
+            raise
+        return made
+
     def outcomes(self) -> Iterator[Outcome]:
         """The outcomes that have come by now and weren't answered before. It doesn't wait. Behind `close` they are those that had come by then."""
         if not self._closed:
@@ -208,6 +254,8 @@ class Module:
             self._process.wait()
         if self._process.stdout is not None:
             self._process.stdout.close()
+        if self._asks is not None:
+            self._asks.close()
         self._hear()
         self._said.close()
 

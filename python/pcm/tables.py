@@ -1,5 +1,6 @@
 """What commands of the package share: how they end, words, names of runs, and tables as text."""
 import argparse
+import contextlib
 import math
 import os
 import shlex
@@ -15,7 +16,10 @@ def answered(name: str, about: Optional[str], words: Sequence[str], work: Callab
     if "--help" in words or "-h" in words:
         print(about)
         return 0
+    _open_closed()
     try:
+        if sys.stdout is None:
+            raise PcmError(5, "standard output is closed")
         status = work(words)
         sys.stdout.flush()
         return status
@@ -30,8 +34,21 @@ def answered(name: str, about: Optional[str], words: Sequence[str], work: Callab
         os.dup2(os.open(os.devnull, os.O_WRONLY), sys.stdout.fileno())
         said, status = f"{wrong.filename or 'standard output'}: {wrong.strerror}", 5
     # (a name may be of any bytes)
-    print(f"{name}: {said.encode('utf-8', 'surrogateescape').decode('utf-8', 'replace')}", file=sys.stderr)
+    # (nobody is told where that is closed)
+    if sys.stderr is not None:
+        with contextlib.suppress(OSError):
+            print(f"{name}: {said.encode('utf-8', 'surrogateescape').decode('utf-8', 'replace')}", file=sys.stderr, flush=True)
     return status
+
+
+def _open_closed() -> None:
+    """Lets no file that is opened here get the number of standard input, output or error where these are closed: what reads or writes there
+    has a fault."""
+    for fd, how in enumerate((os.O_WRONLY, os.O_RDONLY, os.O_WRONLY)):
+        try:
+            os.fstat(fd)
+        except OSError:
+            os.open(os.devnull, how)
 
 
 def parsed_options(words: str) -> Dict[str, str]:

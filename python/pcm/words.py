@@ -8,6 +8,7 @@ it speaks to a person, `pcm.errors` for its exceptions; the pages of help, the m
     python3 words.py command WORD           that there is no such command, and which there are
 """
 import difflib
+import itertools
 import os
 import re
 import sys
@@ -177,7 +178,10 @@ FLAGS = {
     "explain": {"all": "explains the first row of each bank that breaks a rule"},
 }
 # What the wrapper answers by itself.
-WRAPPERS = {"help": "prints this help", "version": "prints the version", "path": "prints where the built program is"}
+WRAPPERS = {
+    "help": "prints this help", "version": "prints the version", "path": "prints where the built program is",
+    "parts": "replays a trace as a stream does, on several processors",
+}
 
 
 # Words.
@@ -414,6 +418,13 @@ def _wrong_field(
     return None if re.fullmatch(pattern, data) else ("payload", _wrong_payload(op, data, size))
 
 
+def fault_kind(record: Sequence[str], before: int, shape: Tuple[int, int, bool], number: int) -> Optional[str]:
+    """The kind of the first fault of a record behind a row of this tick, None where it has none, by the lines of the module, the bytes of a
+    line, whether rows come in a stream, and the row's number, or that of the next one."""
+    found = _wrong_field(record, (before, None), shape, number)
+    return found[0] if found else None
+
+
 def _faulty_row(path: str, row: int, kind: str, words: Sequence[str]) -> Optional[str]:
     """Where a faulty row stands in its file, and what is wrong there."""
     shape, number, last, until = _shape_of(words), 0, (0, 1), (0, 1)
@@ -481,6 +492,7 @@ def wrong_row(row: Handed, shape: Tuple[int, int, bool]) -> Optional[Tuple[str, 
 
 # The outcomes of each operation, and which of them have a place and bytes.
 OUTCOMES = {"R": ("read", "forwarded", "busy", "lost"), "W": ("stored", "merged", "queued", "full", "worn"), "C": ("cut",)}
+ASKS = {"R": "a read", "W": "a write", "M": "a masked write", "C": "a power cut"}
 PLACED, ANSWERED = ("stored", "read"), ("read", "forwarded")
 LAST_PLACE = 98831
 
@@ -522,6 +534,18 @@ def _asked_at(path: str, row: int) -> Optional[List[str]]:
     return None
 
 
+def _unanswered(path: str, row: int) -> str:
+    """What the first row of the trace asks for that has no row of results, and how many have none behind it."""
+    rows = itertools.takewhile(lambda record: ",".join(record) != RESULTS, (record for _, record in _records(path)))
+    lacking = list(itertools.islice(rows, row, None))
+    if not lacking or len(lacking[0]) != 4 or lacking[0][1] not in ASKS:
+        return "a row of the trace lacks its own"
+    tick, op, line, _ = lacking[0]
+    more = len(lacking) - 1
+    behind = f", nor {'has the row' if more == 1 else f'have the {more:,} rows'} behind it" if more else ""
+    return f"row {row} of the trace, {ASKS[op]}{f' of line {line}' if line else ''} at tick {tick}, has no answer{behind}"
+
+
 def _faulty_result(path: str, row: int, words: Sequence[str]) -> Optional[str]:
     """Where a row stands that isn't one of results, and which of its fields can't stand there."""
     wanted = row
@@ -537,7 +561,7 @@ def _faulty_result(path: str, row: int, words: Sequence[str]) -> Optional[str]:
             if row == 0:
                 break
     if row > 0:
-        return f"the results end with line {begins}: a row of the trace lacks its own"
+        return f"the results end with line {begins}: {_unanswered(path, wanted)}"
     line, ended = line.rstrip("\n"), line.endswith("\n")
     if line.endswith("\r"):
         return f"line {begins}: it ends with CRLF, and must end with LF"

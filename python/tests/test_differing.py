@@ -17,6 +17,9 @@ ONES, ZEROS = "ff" * 64, "00" * 64
 TRACE = f"tick,op,arg,data\n0,W,0,{ONES}\n0,R,0,\n100,R,0,\n"
 HEADER = "row,op,line,outcome,tick,place,data\n"
 RIGHT = f"{HEADER}1,W,0,stored,15,3,\n2,R,0,forwarded,0,,{ONES}\n3,R,0,read,105,3,{ONES}\n"
+# What is said of results that end before their trace.
+LACKING = "row 2 of the trace, a read of line 0 at tick 0, has no answer, nor has the row behind it"
+LACKING_ONE = "row 3 of the trace, a read of line 0 at tick 100, has no answer"
 STALE = f"{HEADER}1,W,0,stored,15,3,\n2,R,0,read,5,3,{ZEROS}\n3,R,0,read,106,3,{ONES}\n"
 
 
@@ -85,7 +88,8 @@ class Partings(Room):
             (TRACE[:-1], RIGHT, RIGHT.replace("read", "red"), 2, f"line 4: {at} (did you mean read?)", "results row 3"),
             (TRACE, RIGHT.replace("forwarded", "stored"), RIGHT, 1, f"line 3: {at} (stored is of W)", "results row 2"),
             (TRACE, RIGHT, RIGHT[:-RIGHT.count(ONES)], 2, "line 4: ", "results row 3"),
-            (TRACE, RIGHT.partition("2,R")[0], RIGHT, 1, "the results end with line 2: a row of the trace lacks its own", "results row 2"),
+            (TRACE, RIGHT.partition("2,R")[0], RIGHT, 1, f"the results end with line 2: {LACKING}", "results row 2"),
+            (TRACE, RIGHT, RIGHT.partition("3,R")[0], 2, f"the results end with line 3: {LACKING_ONE}", "results row 3"),
             (TRACE, RIGHT, RIGHT.replace("\n", "\r\n"), 2, "line 1: it has 7 fields", "trace row 4: fields"),
             (TRACE, RIGHT, "row\n", 2, f"its first line must be {HEADER[:-1]}", None),
         ):

@@ -258,6 +258,22 @@ class Streams(unittest.TestCase):
             module.close()
             self.assertEqual([], list(module.outcomes()))
 
+    def test_a_line_has_a_bank(self):
+        seen = [0] * 4
+        with pcm.Module(banks=4, regions=2, lines=8, seed=7, tell="shape") as module:
+            for line in range(64):
+                module.write(0, line, ONES)
+                now = [it.writes for it in module.banks(0)]
+                self.assertEqual([0] * 3 + [1], sorted(new - old for new, old in zip(now, seen)))
+                self.assertEqual(1, now[module.bank_of(line)] - seen[module.bank_of(line)])
+                seen = now
+            self.assertEqual([16] * 4, seen)
+            for line in (-1, 64):
+                with self.assertRaisesRegex(IndexError, f"no line {line}$"):
+                    module.bank_of(line)
+        with pcm.Module(**SMALL) as module, self.assertRaisesRegex(ValueError, "shape"):
+            module.bank_of(0)
+
     def test_what_has_ended_is_told_behind_a_close(self):
         ended, faulty, killed = (pcm.Module(**SMALL) for _ in range(3))
         ended.cut(3)

@@ -3,19 +3,25 @@ use Rattle.std.proofs.Common.{◌≡◌, ℕ, List, [], ◌∷◌, ◌++◌, len
 use Rattle.std.proofs.lemmas.List.{append-nil}
 use Rattle.bank_model.specs.Timing.{TimedEvent}
 use Rattle.module_shape.specs.{Limits.IsShape, declared.raw.RawShape.RawShape}
+use Rattle.clock_laws.specs.Ending.{LeavingLaw}
 use Rattle.run_laws.specs.FinishedLaws.{LinesLaw}
+use Rattle.read_moments.specs.Reads.{ReadsLaw}
 use Rattle.row_printer.specs.{Printing.table_of, Telling.became, declared.told.Told.Told}
 use Rattle.trace_stream.specs.{Asked.events_in, declared.asked.Asked.Asked}
 use Rattle.row_stream.specs.Serving.{AreKnown, TellsAlong, lines_of}
-use Rattle.moment_laws.{specs.Moments.{AlongLaw, MomentLaw, WasMoment}, specs.Streams.{BegunStreamLaw, WholeStreamLaw}, proofs.Moment.{by-history, by-rows, all-queued}}
+use Rattle.moment_laws.specs.{Banks.MeanwhileLaw, Moments.{AlongLaw, MomentLaw, WasMoment}, Streams.{BegunStreamLaw, WholeStreamLaw}}
+use Rattle.moment_laws.proofs.Moment.{by-history, by-rows, all-backlogs, all-end, all-queued, all-served}
 
-pub moment_law : LinesLaw → MomentLaw
-moment_law lines n m e raw seed events h module_ array outcomes is served =
+pub moment_law : LinesLaw → LeavingLaw → ReadsLaw → MeanwhileLaw → MomentLaw
+moment_law lines leaving reads meanwhile n m e raw seed events h module_ array outcomes is served =
     let shape : IsShape module_.shape = subst IsShape (sym served.shape) is in
     record {
       accepted = λ line lt. by-history lines events h module_ array outcomes shape served.size served.replays line lt;
       stands = λ line lt. by-rows lines events h module_ array outcomes shape served.size served.replays line lt;
       queued = all-queued lines events h module_ array outcomes shape served.size served.replays;
+      reads = all-served lines events h module_ array outcomes shape served.size served.replays reads;
+      ends = all-end lines events h module_ array outcomes shape served.size served.replays leaving meanwhile;
+      backlogs = all-backlogs lines events h module_ array outcomes shape served.size served.replays;
     }
 
 module _ {n m : ℕ} (e : ℕ) (raw : RawShape) (seed : ℕ) where

@@ -1,4 +1,5 @@
-mod Rows
+mod Banks
+mod Counting
 mod Queueing
 mod Moment
 mod Along

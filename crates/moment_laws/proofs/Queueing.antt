@@ -12,7 +12,7 @@ use Rattle.bank_laws.{specs.Outcomes.{outcome_of, ended}, specs.Settling.AreOpen
 use Rattle.bank_laws.proofs.{Fates.{IsLeft, WriteFate, new-push, new-merged}, Serves.{may_at, onwards_at}}
 use Rattle.module_laws.specs.Asking.{Asked, asked_in, asked_of, AreAsked, IsAsked}
 use Rattle.pcm_module.specs.Replaying.{outcome_so_far}
-use Rattle.moment_laws.proofs.Rows.{IsRight}
+use Rattle.read_moments.proofs.Rows.{IsRight}
 
 module _ {n m : ℕ} (shape : BankShape) (pace : Pace) (e : ℕ) (all : List (TimedEvent n m)) (outcome : ℕ → Outcome n) where
   abbrev IsRecorded : Asked n → Type 0

@@ -1,2 +1,4 @@
+pub mod Backlogs
+pub mod Banks
 pub mod Moments
 pub mod Streams

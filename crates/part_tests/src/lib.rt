@@ -10,13 +10,9 @@ mod comparing;
 #[cfg(test)]
 mod keeping;
 #[cfg(test)]
-mod line_writes;
-#[cfg(test)]
 mod mixing;
 #[cfg(test)]
 mod pointers;
-#[cfg(test)]
-mod programming;
 #[cfg(test)]
 mod queueing;
 #[cfg(test)]

@@ -30,6 +30,8 @@ pub struct Case {
     pub shown: Vec<u32>,
     /// Where the output is an image, of how many bytes its first pieces are; behind them come rows of cells.
     pub pieces: Vec<u32>,
+    /// What is changed in the image, showing by showing.
+    pub changes: Vec<String>,
     /// How many rows of the output are shown, the last ones, where not all are.
     pub last: Option<usize>,
     /// The greatest tick of a cut; there is a run for each from 0.
@@ -62,6 +64,7 @@ impl Case {
             one_byte: false,
             shown: Vec::new(alloc),
             pieces: Vec::new(alloc),
+            changes: Vec::new(alloc),
             last: None,
             cuts: None,
             beginnings: false,
@@ -114,6 +117,7 @@ impl Case {
             "one-byte" => self.one_byte = true,
             "show" => take_numbers(&mut self.shown, rest)?,
             "image" => take_numbers(&mut self.pieces, rest)?,
+            "changed" => take_texts(&mut self.changes, rest)?,
             "last" => self.last = Some(rest.parse::<usize>()?),
             "cuts" => self.cuts = Some(rest.parse::<u32>()?),
             "beginnings" => self.beginnings = true,
@@ -131,12 +135,17 @@ impl Case {
 
     // Words of the command line, with blanks between them.
     fn take_words(&mut self, text: &str) -> Result<(), AllocError> {
-        for word in text.split_ascii_whitespace() {
-            let word = String::from_str(*self.name.allocator(), word)?;
-            self.words.push(word)?;
-        }
-        Ok(())
+        take_texts(&mut self.words, text)
     }
+}
+
+fn take_texts(texts: &mut Vec<String>, text: &str) -> Result<(), AllocError> {
+    let alloc = *texts.allocator();
+    for item in text.split_ascii_whitespace() {
+        let item = String::from_str(alloc, item)?;
+        texts.push(item)?;
+    }
+    Ok(())
 }
 
 fn take_numbers(numbers: &mut Vec<u32>, text: &str) -> Result<()> {

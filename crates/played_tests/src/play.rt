@@ -55,6 +55,11 @@ fn push_one(text: &mut String, case: &Case) -> Result<(), AllocError> {
     push_answer(text, case, &answer)?;
     if !case.pieces.is_empty() {
         push_stood_for(text, case, answer.bytes.as_slice())?;
+        for change in case.changes.iter() {
+            let image = changed(alloc, answer.bytes.as_slice(), change.as_str())?;
+            writeln!(text, "changed {}", change.as_str())?;
+            push_stood_for(text, case, image.as_slice())?;
+        }
     }
     if answer.status <= 1 && answer.out.as_str().starts_with("row,op,") {
         let stream = stream_of(alloc, case)?;
@@ -91,6 +96,22 @@ fn push_stood_for(text: &mut String, case: &Case, image: &[u8]) -> Result<(), Al
     show.last = case.last;
     let answer = answer_of(alloc, &show, image)?;
     push_answer(text, &show, &answer)
+}
+
+// The image with a byte changed, `AT:BYTE`, or cut or made longer by zeros to so many bytes, `=COUNT`; or several of these, `+` between them.
+fn changed(alloc: Global, image: &[u8], change: &str) -> Result<Vec<u8>, AllocError> {
+    let mut bytes = Vec::from_slice(alloc, image)?;
+    for part in change.split('+') {
+        if let Some(count) = part.strip_prefix('=') {
+            bytes.resize(count.parse::<usize>().unwrap_or(0), 0)?;
+        } else if let Some((at, byte)) = part.split_once(':') {
+            let at = at.parse::<usize>().unwrap_or(0);
+            if let Some(place) = bytes.get_mut(at) {
+                *place = byte.parse::<u8>().unwrap_or(0);
+            }
+        }
+    }
+    Ok(bytes)
 }
 
 fn answer_of(alloc: Global, case: &Case, trace: &[u8]) -> Result<Answer, AllocError> {

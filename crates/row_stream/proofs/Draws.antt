@@ -9,6 +9,9 @@ use Rattle.row_printer.specs.{Printing.table_of, Refusing.any_refused, declared.
 use Rattle.trace_reader.{specs.Events.{AreEventsFor, IsEventFor}, specs.declared.event.Event.Event, proofs.Lawful.lawful-first}
 use Rattle.trace_gen.specs.{Generated.{IsLongMix, generated}, Laws.IsGenerated, declared.mix.Mix.Mix}
 use Rattle.trace_stream.specs.{Asked.events_in, Laws.all_events, declared.asked.Asked.Asked, declared.asked.Asked.TheVariants.Happens}
+use Rattle.feistel_map.specs.{Log2.log2, Network.{Network, network_of}}
+use Rattle.right_runs.specs.Banks.{bank_of_line}
+use Rattle.drawn_parts.{specs.{Parts.drawn_for, declared.Banks.Banks}, proofs.Picking.{for-few, lawful-for}}
 use Rattle.row_stream.specs.{Asking.{behind_of, behind_op}, Refusing.WentOn, Serving.{IsServing, told_before, told_so_far}, declared.stop.Behind.Behind}
 use Rattle.row_stream.{specs.declared.stop.Behind.TheVariants.Nothing, proofs.Refusals.{went-first, went-on}}
 
@@ -30,14 +33,16 @@ pub record HasDrawn {n m e : ℕ} (stops : Bool) (raw : RawShape) (seed : ℕ) (
   pub few : length (events_in asked) + length left ≤ 4000000000
 
 module _ {n m e : ℕ} {stops : Bool} (raw : RawShape) (seed : ℕ) where
-  pub drawn-first : (module_ : ModuleState n m e) (array : ArrayState n m) (places : ℕ) (told : List (Told n)) (shown : Shown) (snaps : List Snapshot) (left : List (Event n)) (lines own : ℕ) (mix : Mix)
+  pub drawn-first : (module_ : ModuleState n m e) (array : ArrayState n m) (places : ℕ) (told : List (Told n)) (shown : Shown) (snaps : List Snapshot) (left : List (Event n)) (lines own : ℕ) (banks : Banks) (mix : Mix)
       → IsServing raw seed [] module_ array places told shown snaps → lines ≡ total_of raw → IsLongMix mix → IsGenerated lines mix (generated n own lines mix) → left ≡ generated n own lines mix
-      → HasDrawn stops raw seed module_ array places told shown snaps (generated n own (total_of raw) mix) left Nothing
-  drawn-first module_ array places told shown snaps left lines own mix serving is long drawn same =
+      → HasDrawn stops raw seed module_ array places told shown snaps (drawn_for raw own banks (generated n own (total_of raw) mix)) (drawn_for raw own banks left) Nothing
+  drawn-first module_ array places told shown snaps left lines own banks mix serving is long drawn same =
       let all : List (Event n) = generated n own (total_of raw) mix in
       let P : ℕ → Type 0 = λ k. IsGenerated k mix (generated n own k mix) in
-      let Q : ℕ → Type 0 = λ tick. AreEventsFor (total_of raw) tick all in
-      let R : List (Event n) → Type 0 = λ events. HasDrawn stops raw seed module_ array places told shown snaps all events Nothing in
+      let home : ℕ → ℕ = bank_of_line raw own in
+      let picked : List (Event n) = drawn_for raw own banks all in
+      let Q : ℕ → Type 0 = λ tick. AreEventsFor (total_of raw) tick picked in
+      let R : List (Event n) → Type 0 = λ events. HasDrawn stops raw seed module_ array places told shown snaps picked (drawn_for raw own banks events) Nothing in
       let right : IsGenerated (total_of raw) mix all = subst P is drawn in
       let left_is : left ≡ all = same ∙ ap (λ (k : ℕ). generated n own k mix) is in
       subst R (sym left_is) (record {
@@ -46,8 +51,8 @@ module _ {n m e : ℕ} {stops : Bool} (raw : RawShape) (seed : ℕ) where
         went = went-first stops (told_so_far serving);
         stands = refl;
         drawn = refl;
-        lawful = subst Q (sym serving.tick) right.lawful;
-        few = omega (arith, right.rows, long.few_rows);
+        lawful = subst Q (sym serving.tick) (lawful-for home banks (total_of raw) 0 all right.lawful);
+        few = let few = for-few home banks all in omega (arith, few, right.rows, long.few_rows);
       })
 
   module _ (module_ : ModuleState n m e) (array : ArrayState n m) (places : ℕ) (told : List (Told n)) (shown : Shown) (snaps : List Snapshot) (all left : List (Event n)) (behind : Behind)
@@ -90,3 +95,19 @@ module _ {n m e : ℕ} {stops : Bool} (raw : RawShape) (seed : ℕ) where
     drawn-all none =
         let P : List (Event n) → Type 0 = λ events. reverse had.asked ++ all_events events ≡ all_events all in
         sym (append-nil (reverse had.asked)) ∙ subst P none had.drawn
+
+module _ {n : ℕ} (shape raw : RawShape) (network : Network) (bits own : ℕ) (banks : Banks) (old : List (Event n)) where
+  -- the next event that is picked, by the randomiser of a seed
+  pub next-for : (new : List (Event n)) (event : Event n) → shape ≡ raw → network ≡ network_of bits own → bits ≡ log2 (total_of shape)
+      → ((seed : ℕ) → network ≡ network_of (log2 (total_of shape)) seed → drawn_for shape seed banks old ≡ event ∷ drawn_for shape seed banks new)
+      → drawn_for raw own banks old ≡ event ∷ drawn_for raw own banks new
+  next-for new event same keys size picks =
+      let P : RawShape → Type 0 = λ shape. drawn_for shape own banks old ≡ event ∷ drawn_for shape own banks new in
+      subst P same (picks own (keys ∙ ap (λ (b : ℕ). network_of b own) size))
+
+  -- or there is none
+  pub none-for : shape ≡ raw → network ≡ network_of bits own → bits ≡ log2 (total_of shape)
+      → ((seed : ℕ) → network ≡ network_of (log2 (total_of shape)) seed → drawn_for shape seed banks old ≡ []) → drawn_for raw own banks old ≡ []
+  none-for same keys size picks =
+      let P : RawShape → Type 0 = λ shape. drawn_for shape own banks old ≡ [] in
+      subst P same (picks own (keys ∙ ap (λ (b : ℕ). network_of b own) size))

@@ -61,7 +61,7 @@ module _ {n m e : ℕ} (raw : RawShape) (seed : ℕ) (asked : List (Asked n)) (m
   pub event-order : {S : Type 0} (written : S → Option (List ℕ)) (faults : S → ℕ) (event : Event n) (row : ℕ) (one two : Printing n S)
       → row ≡ places + 1 → IsShape module_.shape → IsOpFor (total_of module_.shape) event.op → TellsOnce two.rows (outcomes_in two.told)
       → TellsFor (PrintsOn written faults) table_told module_ row (asks_of event.op) one two
-      → ToldSo (ComeInOrder raw seed (Happens event) (events_in asked)) one.told two.told
+      → ToldSo (ComeInOrder raw seed (Happens event) asked) one.told two.told
   event-order {S = S} written faults event row one two is shaped lawful once tells =
       let came : ToldSo (ComeFor module_.shape module_.seed events row (asks_of event.op)) one.told two.told = by (asks_of event.op) refl (lines-asked (total_of module_.shape) event.op lawful) tells in
       let Q : RawShape → ℕ → ℕ → Type 0 = λ r k at. ComeFor r k events at (asks_of event.op) came.outcomes in
@@ -113,7 +113,7 @@ module _ {n m e : ℕ} (raw : RawShape) (seed : ℕ) (asked : List (Asked n)) (m
   -- and then it is served
   pub serving-event : (event : Event n) (new : ModuleState n m e) (after : ArrayState n m) (places2 : ℕ) (told2 : List (Told n)) (shown2 : Shown) (snaps1 snaps2 : List Snapshot) (row : ℕ) (results : List (Outcome n))
       → results ≡ longer (table_of places told) → row ≡ places + 1 → places2 ≡ places + 1
-      → (outcomes : List (ℕ × Outcome n)) → told2 ≡ told ++ became outcomes → ComeInOrder raw seed (Happens event) (events_in asked) outcomes
+      → (outcomes : List (ℕ × Outcome n)) → told2 ≡ told ++ became outcomes → ComeInOrder raw seed (Happens event) asked outcomes
       → new.shape ≡ module_.shape → new.seed ≡ module_.seed → new.finished ≡ false → new.tick ≡ event.tick → module_.tick ≤ event.tick → event.tick ≤ latest_tick → new.rows_below ≡ row + 1
       → length (table_of places2 told2) ≡ length results
       → ((h : ℕ → List (TimedEvent n m)) (rows : List (AskedRow n)) → Replays h rows module_ array results
@@ -146,8 +146,9 @@ module _ {n m e : ℕ} (raw : RawShape) (seed : ℕ) (asked : List (Asked n)) (m
       subst (B (length (event ∷ events_in asked)) event.tick) snapped (subst (λ at. B (length (event ∷ events_in asked)) at snaps1) tick (subst (λ k. B k new.tick snaps1) counted (adds ends.0 ends.1))) in (
         record {
           history = h;
-          along = (had.history, told, had.along, led.0, refl, outcomes, order, record { module_ = new; array = after; served = subst Q counted served; tick = tick; rises = omega (arith, had.tick, rises); settled = tt; reached = tt }, tells ∙ sym (append-nil (told ++ became outcomes)));
+          along = (had.history, told, had.along, led.0, refl, outcomes, order, record { module_ = new; array = after; served = subst Q counted served; tick = tick; rises = omega (arith, had.tick, rises); settled = tt; reached = tt }, tells ∙ sym (append-nil (told ++ became outcomes)), tt);
           snaps = (snaps, subst A (sym shows) had.snaps, added);
+          now = (refl, refl);
           served = served;
           counted = counted;
           tick = tick;
@@ -208,8 +209,10 @@ module _ {n m e : ℕ} (raw : RawShape) (seed : ℕ) (asked : List (Asked n)) (m
             order,
             record { module_ = new; array = after; served = subst Q counted now.1; tick = tick; rises = omega (arith, had.tick, rises); settled = settled; reached = tt },
             tells2 ∙ ap (λ t. t ++ lines) tells,
+            tt,
           );
           snaps = (snaps, subst (λ s. SnapsAlong e raw seed s asked had.history told had.along snaps) (sym shows) had.snaps, snapped);
+          now = (refl, refl);
           served = now.1;
           counted = counted;
           tick = tick;
@@ -246,8 +249,10 @@ module _ {n m e : ℕ} (raw : RawShape) (seed : ℕ) (asked : List (Asked n)) (m
             order,
             record { module_ = new; array = after; served = subst Q counted now.1; tick = tick; rises = omega (arith, had.tick, rises); settled = settled; reached = tt },
             tells2 ∙ ap (λ t. t ++ lines) tells,
+            tt,
           );
           snaps = (snaps, subst (λ s. SnapsAlong e raw seed s asked had.history told had.along snaps) (sym shows) had.snaps, snapped);
+          now = (refl, refl);
           served = now.1;
           counted = counted;
           tick = tick;
@@ -284,8 +289,10 @@ module _ {n m e : ℕ} (raw : RawShape) (seed : ℕ) (asked : List (Asked n)) (m
             order,
             record { module_ = new; array = after; served = subst Q counted now.1; tick = tick; rises = omega (arith, had.tick, rises); settled = settled; reached = tt },
             tells2 ∙ ap (λ t. t ++ lines) tells,
+            tt,
           );
           snaps = (snaps, subst (λ s. SnapsAlong e raw seed s asked had.history told had.along snaps) (sym shows) had.snaps, snapped);
+          now = (refl, refl);
           served = now.1;
           counted = counted;
           tick = tick;

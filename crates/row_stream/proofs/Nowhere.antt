@@ -17,7 +17,7 @@ use Rattle.right_runs.specs.Banks.{bank_of_line, line_in_bank}
 use Rattle.run_laws.proofs.Mixing.{lines_law}
 use Rattle.pcm_module.specs.{Asking.{asked_by, asked_for}, Replaying.{Replays, ReplaysIn}, Settling.IsAtTick, State.{ModuleState, bank_at, first_bank}}
 use Rattle.pcm_module.specs.Telling.{has_standing, rows_at}
-use Rattle.row_stream.{specs.Reaching.IsUnsetOrAt, proofs.Ticks.{first-told, own-done}}
+use Rattle.row_stream.{specs.Reaching.{CameBetween, CameBy, IsUnsetOrAt}, proofs.Ticks.{IsOrTells, done-between, done-by, first-told, own-done, told-own}}
 
 -- the bank of a module that is there
 pub at-bank : {n m e : ℕ} (module_ : ModuleState n m e) (bank : ℕ) (clock : ClockState n m e) → slice_get module_.banks bank ≡ Some clock → bank_at module_ bank ≡ clock
@@ -76,6 +76,9 @@ next-within to clock = by (next_action clock)
     by : (a : Option Action) → end_by to clock.pace a ≤ to
     by None = omega arith
     by (Some action) = below-right (ends clock.pace action) to
+
+some-same : {X : Type 0} (x y : X) → Some x ≡ Some y → x ≡ y
+some-same x y same = cc
 
 -- a bank of which all have come to a tick has
 pub at-tick : {n m e : ℕ} (tick : ℕ) (o : Option (ClockState n m e)) (clock : ClockState n m e) → o ≡ Some clock → IsSomeAnd o (IsAtTick tick) → clock.tick ≡ tick
@@ -140,30 +143,85 @@ module _ {n m e : ℕ} (h : ℕ → List (TimedEvent n m)) (events : List (Event
           let is_clock : was ≡ clock = cc in
           own (subst (λ (c : ClockState n m e). ReplaysIn module_ bank (h bank) (asked_for events) array results c) is_clock there)
 
-  -- once all banks have come to the tick at which the next action ends of the bank where a row stood, the row has no outcome yet, or has it at that tick
-  pub first-nowhere : (new : ModuleState n m e) (after : ArrayState n m) (recorded : List (Outcome n)) (added : ℕ → List (TimedEvent n m))
-      → Replays (λ bank. added bank ++ h bank) (asked_for events) new after recorded → ((bank : ℕ) → IsQuiet (added bank))
-      → new.shape ≡ module_.shape → new.seed ≡ module_.seed → (reached : ℕ) → ((bank : ℕ) → bank < new.shape.banks → IsSomeAnd (slice_get new.banks bank) (IsAtTick reached))
-      → (bank to row : ℕ) (clock : ClockState n m e) → bank < module_.shape.banks → slice_get module_.banks bank ≡ Some clock → rows_at module_ bank row ≡ true → reached ≡ next_end to clock
-      → IsUnsetOrAt reached (outcome_in recorded row)
-  first-nowhere new after recorded added now quiet shape seeded reached settled bank to row clock exists found stands ends =
-      let there : bank < new.shape.banks = subst (λ (r : RawShape). bank < r.banks) (sym shape) exists in
-      by (slice_get module_.banks bank) found (had.banks bank exists) (slice_get new.banks bank) (moved (slice_get new.banks bank) (now.banks bank there)) (settled bank there)
-    where
-      Own : RawShape → ℕ → ℕ → ℕ → Option (ClockState n m e) → Type 0
-      Own raw seed tick below o = IsSomeAnd o (ReplaysIn (record { shape = raw; seed = seed; banks = new.banks; tick = tick; rows_below = below; finished = new.finished }) bank (added bank ++ h bank) (asked_for events) after recorded)
+  -- once all banks have come to a tick, ..
+  module _ (new : ModuleState n m e) (after : ArrayState n m) (recorded : List (Outcome n)) (added : ℕ → List (TimedEvent n m))
+      (now : Replays (λ bank. added bank ++ h bank) (asked_for events) new after recorded) (shape : new.shape ≡ module_.shape) (seeded : new.seed ≡ module_.seed)
+      (reached : ℕ) (settled : (bank : ℕ) → bank < new.shape.banks → IsSomeAnd (slice_get new.banks bank) (IsAtTick reached)) where
+    abbrev pub Own : ℕ → ℕ → ℕ → ClockState n m e → Type 0
+    Own bank tick below next =
+        ReplaysIn (record { shape = module_.shape; seed = module_.seed; banks = new.banks; tick = tick; rows_below = below; finished = new.finished }) bank (added bank ++ h bank) (asked_for events) after recorded next
 
-      moved : (o : Option (ClockState n m e)) → IsSomeAnd o (ReplaysIn new bank (added bank ++ h bank) (asked_for events) after recorded) → Own module_.shape module_.seed new.tick new.rows_below o
-      moved o had = subst (λ (s : ℕ). Own module_.shape s new.tick new.rows_below o) seeded (subst (λ (r : RawShape). Own r new.seed new.tick new.rows_below o) shape had)
+    -- both of a bank: as it stood, and as it stands
+    pub record WentOn (bank : ℕ) : Type 0 where
+      pub clock : ClockState n m e
+      pub next : ClockState n m e
+      pub found : slice_get module_.banks bank ≡ Some clock
+      pub stood : ReplaysIn module_ bank (h bank) (asked_for events) array results clock
+      pub goes : Own bank new.tick new.rows_below next
+      pub at : next.tick ≡ reached
 
-      stood : has_standing clock.bank row ≡ true
-      stood = subst (λ (c : ClockState n m e). has_standing c.bank row ≡ true) (at-bank module_ bank clock found) stands
+    went-on : (bank : ℕ) → bank < module_.shape.banks → WentOn bank
+    went-on bank exists =
+        by (slice_get module_.banks bank) refl (had.banks bank exists) (slice_get new.banks bank) (moved (slice_get new.banks bank) (now.banks bank there)) (settled bank there)
+      where
+        there : bank < new.shape.banks
+        there = subst (λ (r : RawShape). bank < r.banks) (sym shape) exists
 
-      by : (o : Option (ClockState n m e)) → o ≡ Some clock → IsSomeAnd o (ReplaysIn module_ bank (h bank) (asked_for events) array results) → (p : Option (ClockState n m e)) → Own module_.shape module_.seed new.tick new.rows_below p
-          → IsSomeAnd p (IsAtTick reached) → IsUnsetOrAt reached (outcome_in recorded row)
-      by None none had p own at = absurd (cc none)
-      by (Some was) same had None own at = absurd own
-      by (Some was) same had (Some next) own at =
-          let is_clock : was ≡ clock = cc in
-          let first : ReplaysIn module_ bank (h bank) (asked_for events) array results clock = subst (λ (c : ClockState n m e). ReplaysIn module_ bank (h bank) (asked_for events) array results c) is_clock had in
-          first-told _ _ _ _ (h bank) _ array results clock first _ _ (added bank) after recorded next own (quiet bank) is.some_read_ticks is.some_iter_ticks to reached ends at row stood
+        Of : RawShape → ℕ → Option (ClockState n m e) → Type 0
+        Of raw seed o = IsSomeAnd o (ReplaysIn (record { shape = raw; seed = seed; banks = new.banks; tick = new.tick; rows_below = new.rows_below; finished = new.finished }) bank (added bank ++ h bank) (asked_for events) after recorded)
+
+        moved : (o : Option (ClockState n m e)) → IsSomeAnd o (ReplaysIn new bank (added bank ++ h bank) (asked_for events) after recorded) → Of module_.shape module_.seed o
+        moved o had = subst (λ (s : ℕ). Of module_.shape s o) seeded (subst (λ (r : RawShape). Of r new.seed o) shape had)
+
+        by : (o : Option (ClockState n m e)) → slice_get module_.banks bank ≡ o → IsSomeAnd o (ReplaysIn module_ bank (h bank) (asked_for events) array results) → (p : Option (ClockState n m e)) → Of module_.shape module_.seed p
+            → IsSomeAnd p (IsAtTick reached) → WentOn bank
+        by None none had p own at = absurd had
+        by (Some clock) found had None own at = absurd own
+        by (Some clock) found had (Some next) own at = record { clock = clock; next = next; found = found; stood = had; goes = own; at = at }
+
+    -- what each bank did more was of such a tick: so each row has the outcome that it had, or one of such a tick
+    told-then : (Is : ℕ → Type 0) → ((bank : ℕ) → bank < module_.shape.banks → All (λ x. Is x.tick) (added bank))
+        → (row : ℕ) → 1 ≤ row → row ≤ length events → IsOrTells Is (outcome_in results row) (outcome_in recorded row)
+    told-then Is of row least most =
+        let some : 0 < module_.shape.banks = omega (arith, is.some_banks) in
+        let all = each-somewhere (bank_of_line module_.shape module_.seed) (line_in_bank module_.shape module_.seed) module_.shape.banks (total_of module_.shape)
+        (λ line lt. (lines_law module_.shape module_.seed is).exists line lt) some (λ bank row. IsOrTells Is (outcome_in results row) (outcome_in recorded row)) (asked_for events) had.exist own in
+        let found = row-of (λ row. Somewhere module_.shape.banks (λ bank row. IsOrTells Is (outcome_in results row) (outcome_in recorded row)) row) events all row least most in
+        found.2
+      where
+        own : (bank : ℕ) → bank < module_.shape.banks
+            → All (λ a. IsOrTells Is (outcome_in results a.row) (outcome_in recorded a.row)) (asked_of (bank_of_line module_.shape module_.seed) (line_in_bank module_.shape module_.seed) bank (asked_for events))
+        own bank exists =
+            let w = went-on bank exists in
+            told-own _ _ _ _ (h bank) _ array results w.clock w.stood _ _ (added bank) after recorded w.next w.goes is.some_read_ticks is.some_iter_ticks Is (of bank exists)
+
+    -- .. each row has the outcome that it had, or one that came by that tick
+    pub told-by-then : (row : ℕ) → 1 ≤ row → row ≤ length events → (outcome_in recorded row ≡ outcome_in results row) ⊎ CameBy reached (outcome_in recorded row)
+    told-by-then row least most = told-then (λ t. t ≤ reached) by row least most
+      where
+        by : (bank : ℕ) → bank < module_.shape.banks → All (λ x. x.tick ≤ reached) (added bank)
+        by bank exists =
+            let w = went-on bank exists in
+            done-by _ _ _ _ (h bank) _ array results w.clock w.stood _ _ (added bank) after recorded w.next w.goes is.some_read_ticks is.some_iter_ticks reached w.at
+
+    -- .. and where they all stood at an earlier one, behind that
+    pub told-between : (low : ℕ) → low < reached → ((bank : ℕ) → bank < module_.shape.banks → IsSomeAnd (slice_get module_.banks bank) (IsAtTick low)) → ((bank : ℕ) → IsQuiet (added bank))
+        → (row : ℕ) → 1 ≤ row → row ≤ length events → (outcome_in recorded row ≡ outcome_in results row) ⊎ CameBetween low reached (outcome_in recorded row)
+    told-between low rises stood quiet row least most = told-then (λ t. (low < t) × (t ≤ reached)) by row least most
+      where
+        by : (bank : ℕ) → bank < module_.shape.banks → All (λ x. (low < x.tick) × (x.tick ≤ reached)) (added bank)
+        by bank exists =
+            let w = went-on bank exists in
+            let at : w.clock.tick ≡ low = at-tick low (slice_get module_.banks bank) w.clock w.found (stood bank exists) in
+            let later = next-later bank reached w.clock exists w.found (omega (arith, at, rises)) in
+            done-between _ _ _ _ (h bank) _ array results w.clock w.stood _ _ (added bank) after recorded w.next w.goes is.some_read_ticks is.some_iter_ticks reached low reached (omega (arith, at, later)) (quiet bank) w.at
+
+    -- .. and where it is the one at which the next action ends of the bank where a row stood, the row has no outcome yet, or has it at that tick
+    pub first-nowhere : ((bank : ℕ) → IsQuiet (added bank)) → (bank to row : ℕ) (clock : ClockState n m e) → bank < module_.shape.banks → slice_get module_.banks bank ≡ Some clock → rows_at module_ bank row ≡ true
+        → reached ≡ next_end to clock → IsUnsetOrAt reached (outcome_in recorded row)
+    first-nowhere quiet bank to row clock exists found stands ends =
+        let w = went-on bank exists in
+        let same : w.clock ≡ clock = some-same w.clock clock (sym w.found ∙ found) in
+        let stood : has_standing w.clock.bank row ≡ true = subst (λ (c : ClockState n m e). has_standing c.bank row ≡ true) (at-bank module_ bank w.clock w.found) stands in
+        first-told _ _ _ _ (h bank) _ array results w.clock w.stood _ _ (added bank) after recorded w.next w.goes is.some_read_ticks is.some_iter_ticks (quiet bank) to reached
+        (ends ∙ ap (λ (c : ClockState n m e). next_end to c) (sym same)) w.at row stood

@@ -193,6 +193,20 @@ module _ {n : ℕ} {S : Type 0} (written : S → Option (List ℕ)) (faults : S 
       (subst (λ (most : ℕ). (row : ℕ) → HasRow (table most (outcomes_in old.told)) row
       → (outcome_in (table_told new) row ≡ outcome_in (table most (outcomes_in old.told)) row) ⊎ Are (outcome_in (table_told new) row)) (sym of.on.rows) of.rows))
 
+  -- where each row of the table has the outcome that it had, or one of a kind, all that was told is of that kind
+  pub are-told : (Are : Outcome n → Type 0) (old new : Printing n S) (outcomes : List (ℕ × Outcome n)) → new.told ≡ old.told ++ became outcomes → new.rows ≡ old.rows → Once new
+      → ((row : ℕ) → HasRow (table_told old) row → (outcome_in (table_told new) row ≡ outcome_in (table_told old) row) ⊎ Are (outcome_in (table_told new) row))
+      → All (λ one. Are one.1) outcomes
+  are-told Are old new outcomes told rows once changes =
+      let whole = ap outcomes_in told ∙ outcomes-became old.told outcomes in
+      each-all Are outcomes
+      (told-are new.rows (outcomes_in old.told) outcomes
+      (subst (λ (told : List (ℕ × Outcome n)). TellsOnce new.rows told) whole once) Are
+      (subst (λ (told : List (ℕ × Outcome n)). (row : ℕ) → HasRow (table new.rows (outcomes_in old.told)) row
+      → (outcome_in (table new.rows told) row ≡ outcome_in (table new.rows (outcomes_in old.told)) row) ⊎ Are (outcome_in (table new.rows told) row)) whole
+      (subst (λ (most : ℕ). (row : ℕ) → HasRow (table most (outcomes_in old.told)) row
+      → (outcome_in (table_told new) row ≡ outcome_in (table most (outcomes_in old.told)) row) ⊎ Are (outcome_in (table_told new) row)) (sym rows) changes)))
+
   -- what was told tick by tick comes in the order of its ticks
   come-by-tick : (times to : ℕ) (old new : Printing n S) → Once new → TellsBy (PrintsOn written faults) table_told times to old new → ToldSo (Within 0 to) old.told new.told
   come-by-tick zero to old new once same = record { outcomes = []; told = sym (ap (λ (p : Printing n S). p.told) same) ∙ sym (append-nil old.told); are = from-first to }

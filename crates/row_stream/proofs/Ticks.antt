@@ -59,22 +59,24 @@ module _ {n : ℕ} (tick row : ℕ) (o : Outcome n) where
           ap tick_of (sym same)
       lost false is = absurd (cc is)
 
--- events of one tick leave a row its outcome, or give it one with this tick
-told-by : {n m : ℕ} (shape : BankShape) (tick row : ℕ) (added xs : List (TimedEvent n m)) → All (λ x. x.tick ≡ tick) added
-    → (outcome_of shape (added ++ xs) row ≡ outcome_of shape xs row) ⊎ (tick_of (outcome_of shape (added ++ xs) row) ≡ Some tick)
-told-by shape tick row [] xs at = inl refl
-told-by {n} {m} shape tick row (x ∷ rest) xs at =
-    by (outcome_with shape (rest ++ xs) x.happens x.tick row) refl (told-by shape tick row rest xs (All-tail (λ (x : TimedEvent n m). x.tick ≡ tick) x rest at))
+-- a row has the outcome that it had, or one of such a tick
+abbrev pub IsOrTells : {n : ℕ} → (ℕ → Type 0) → Outcome n → Outcome n → Type 0
+IsOrTells Is old new = (new ≡ old) ⊎ ((tick : ℕ) × Is tick × (tick_of new ≡ Some tick))
+
+-- events of such ticks leave a row its outcome, or give it one of such a tick
+told-by : {n m : ℕ} (Is : ℕ → Type 0) (shape : BankShape) (row : ℕ) (added xs : List (TimedEvent n m)) → All (λ x. Is x.tick) added
+    → IsOrTells Is (outcome_of shape xs row) (outcome_of shape (added ++ xs) row)
+told-by Is shape row [] xs at = inl refl
+told-by {n} {m} Is shape row (x ∷ rest) xs at =
+    by (outcome_with shape (rest ++ xs) x.happens x.tick row) refl (told-by Is shape row rest xs (All-tail (λ (x : TimedEvent n m). Is x.tick) x rest at))
   where
-    own : x.tick ≡ tick
-    own = All-head (λ (x : TimedEvent n m). x.tick ≡ tick) x rest at
+    own : Is x.tick
+    own = All-head (λ (x : TimedEvent n m). Is x.tick) x rest at
 
-    Told : Outcome n → Type 0
-    Told o = (o ≡ outcome_of shape xs row) ⊎ (tick_of o ≡ Some tick)
-
-    by : (o : Option (Outcome n)) → outcome_with shape (rest ++ xs) x.happens x.tick row ≡ o → Told (outcome_of shape (rest ++ xs) row) → Told (unwrap_or o (outcome_of shape (rest ++ xs) row))
+    by : (o : Option (Outcome n)) → outcome_with shape (rest ++ xs) x.happens x.tick row ≡ o → IsOrTells Is (outcome_of shape xs row) (outcome_of shape (rest ++ xs) row)
+        → IsOrTells Is (outcome_of shape xs row) (unwrap_or o (outcome_of shape (rest ++ xs) row))
     by None is before = before
-    by (Some o) is before = inr (with-tick x.tick row o shape (rest ++ xs) x.happens is ∙ ap Some own)
+    by (Some o) is before = inr (x.tick, own, with-tick x.tick row o shape (rest ++ xs) x.happens is)
 
 least-left : (a b c : ℕ) → c ≡ a → min a b ≤ c
 least-left a b c same = omega (arith, same)
@@ -105,6 +107,23 @@ module _ {n m e : ℕ} (xs : List (TimedEvent n m)) (clock : ClockState n m e) (
       let rises : last_tick (rest ++ xs) ≤ x.tick = last_tick-rises clock.bank.kept.shape clock.pace e (rest ++ xs) x read iter lawful in
       All-cons (λ (x : TimedEvent n m). x.tick ≡ tick) x rest (omega (arith, low, is, top))
       (all-there to tick is rest lawful.1 (All-tail (λ (y : TimedEvent n m). EndsAction y) x rest quiet) (omega (arith, rises, top)))
+
+  -- all that end by a tick end behind one by which none ends
+  all-between : (to low tick : ℕ) → low < next_end to clock → (added : List (TimedEvent n m)) → Lawful clock.bank.kept.shape clock.pace e (added ++ xs) → IsQuiet added
+      → last_tick (added ++ xs) ≤ tick → All (λ x. (low < x.tick) × (x.tick ≤ tick)) added
+  all-between to low tick none [] lawful quiet top = All-nil (λ (x : TimedEvent n m). (low < x.tick) × (x.tick ≤ tick))
+  all-between to low tick none (x ∷ rest) lawful quiet top =
+      let first = none-sooner to x rest lawful quiet in
+      let rises : last_tick (rest ++ xs) ≤ x.tick = last_tick-rises clock.bank.kept.shape clock.pace e (rest ++ xs) x read iter lawful in
+      All-cons (λ (x : TimedEvent n m). (low < x.tick) × (x.tick ≤ tick)) x rest (omega (arith, none, first), omega (arith, top))
+      (all-between to low tick none rest lawful.1 (All-tail (λ (y : TimedEvent n m). EndsAction y) x rest quiet) (omega (arith, rises, top)))
+
+  -- each of some events comes by a tick that is not before the last one
+  all-by : (tick : ℕ) (added : List (TimedEvent n m)) → Lawful clock.bank.kept.shape clock.pace e (added ++ xs) → last_tick (added ++ xs) ≤ tick → All (λ x. x.tick ≤ tick) added
+  all-by tick [] lawful top = All-nil (λ (x : TimedEvent n m). x.tick ≤ tick)
+  all-by tick (x ∷ rest) lawful top =
+      let rises : last_tick (rest ++ xs) ≤ x.tick = last_tick-rises clock.bank.kept.shape clock.pace e (rest ++ xs) x read iter lawful in
+      All-cons (λ (x : TimedEvent n m). x.tick ≤ tick) x rest (omega (arith, top)) (all-by tick rest lawful.1 (omega (arith, rises, top)))
 
 -- a row that was asked of a bank and has a number there arrived
 arrived-named : {n m : ℕ} (xs : List (TimedEvent n m)) (own : List (Asked n)) → AreAsked xs own → All (λ a. is_numbered a.asks ≡ true → arrives_with xs a.row ≡ true) own
@@ -187,44 +206,60 @@ module _ {n m e : ℕ} (shape : BankShape) (pace : Pace) (tick rows : ℕ) (xs :
       by a (Writes line bytes given) told came = numbered a told (came refl) (has_row clock.bank.kept.entries a.row) (has_waiting clock.bank.waiting a.row) refl refl
       by a Cuts told came = inl (λ unset. (let no : out.Cut a.tick ≡ out.Unset = sym told ∙ unset in cc no))
 
-  -- once the bank has come to the tick at which its next action ends, a row that stood there has no outcome yet, or has it at that tick
-  pub first-told : (later above : ℕ) (added : List (TimedEvent n m)) (after : ArrayState n m) (recorded : List (Outcome n)) (next : ClockState n m e)
-      → BankReplays shape pace later above (added ++ xs) asked after recorded next → IsQuiet added → 1 ≤ pace.read → 1 ≤ pace.iter
-      → (to reached : ℕ) → reached ≡ next_end to clock → next.tick ≡ reached → (row : ℕ) → has_standing clock.bank row ≡ true → IsUnsetOrAt reached (outcome_in recorded row)
-  first-told later above added after recorded next now quiet read iter to reached is at row stands =
-      elim (of_named Told asked row each (standing-own row stands)) [
-        | inl same ↦ inl (ap tick_of (same ∙ standing-unset row stands))
-        | inr when ↦ inr when
-      ]
-    where
-      Told : ℕ → Type 0
-      Told row = (outcome_in recorded row ≡ outcome_in results row) ⊎ (tick_of (outcome_in recorded row) ≡ Some reached)
+  module _ (later above : ℕ) (added : List (TimedEvent n m)) (after : ArrayState n m) (recorded : List (Outcome n)) (next : ClockState n m e)
+      (now : BankReplays shape pace later above (added ++ xs) asked after recorded next) (read : 1 ≤ pace.read) (iter : 1 ≤ pace.iter) where
+    lawful : Lawful clock.bank.kept.shape clock.pace e (added ++ xs)
+    lawful =
+        subst (λ (s : BankShape). Lawful s clock.pace e (added ++ xs)) (now.shaped ∙ sym had.shaped)
+        (subst (λ (p : Pace). Lawful next.bank.kept.shape p e (added ++ xs)) (now.paced ∙ sym had.paced) now.leads.lawful)
 
-      lawful : Lawful clock.bank.kept.shape clock.pace e (added ++ xs)
-      lawful =
-          subst (λ (s : BankShape). Lawful s clock.pace e (added ++ xs)) (now.shaped ∙ sym had.shaped)
-          (subst (λ (p : Pace). Lawful next.bank.kept.shape p e (added ++ xs)) (now.paced ∙ sym had.paced) now.leads.lawful)
+    top : (reached : ℕ) → next.tick ≡ reached → last_tick (added ++ xs) ≤ reached
+    top reached at = subst (λ (t : ℕ). last_tick (added ++ xs) ≤ t) at now.leads.told.now
 
-      top : last_tick (added ++ xs) ≤ reached
-      top = subst (λ (t : ℕ). last_tick (added ++ xs) ≤ t) at now.leads.told.now
+    reads : 1 ≤ clock.pace.read
+    reads = subst (λ (p : Pace). 1 ≤ p.read) (sym had.paced) read
 
-      there : All (λ x. x.tick ≡ reached) added
-      there =
-          all-there xs clock array (subst (λ (p : Pace). 1 ≤ p.read) (sym had.paced) read) (subst (λ (p : Pace). 1 ≤ p.iter) (sym had.paced) iter) had.leads to reached is added lawful quiet top
+    iters : 1 ≤ clock.pace.iter
+    iters = subst (λ (p : Pace). 1 ≤ p.iter) (sym had.paced) iter
 
-      on : (row : ℕ) → outcome_in results row ≡ outcome_of shape xs row → outcome_in recorded row ≡ outcome_of shape (added ++ xs) row → Told row
-      on row before after =
-          elim (told-by shape reached row added xs there) [
-            | inl same ↦ inl (after ∙ same ∙ sym before)
-            | inr when ↦ inr (ap tick_of after ∙ when)
-          ]
+    -- what the bank did more it did by the tick to which it came
+    pub done-by : (reached : ℕ) → next.tick ≡ reached → All (λ x. x.tick ≤ reached) added
+    done-by reached at = all-by xs clock array reads iters had.leads reached added lawful (top reached at)
 
-      by : (a : Asked n) (asks : Asks n) → outcome_in results a.row ≡ outcome_so_far shape xs a asks → outcome_in recorded a.row ≡ outcome_so_far shape (added ++ xs) a asks → Told a.row
-      by a (Reads line) before after = on a.row before after
-      by a (Writes line bytes given) before after = on a.row before after
-      by a Cuts before after = inl (after ∙ sym before)
+    -- and behind a tick by which no action ended that ran then
+    pub done-between : (to low reached : ℕ) → low < next_end to clock → IsQuiet added → next.tick ≡ reached → All (λ x. (low < x.tick) × (x.tick ≤ reached)) added
+    done-between to low reached none quiet at = all-between xs clock array reads iters had.leads to low reached none added lawful quiet (top reached at)
 
-      each : All (λ a. Told a.row) asked
-      each =
-          All-both (λ (a : Asked n). outcome_in results a.row ≡ outcome_so_far shape xs a a.asks) (λ (a : Asked n). outcome_in recorded a.row ≡ outcome_so_far shape (added ++ xs) a a.asks) (λ (a : Asked n). Told a.row)
-          (λ a before after. by a a.asks before after) asked had.recorded now.recorded
+    -- by events of such ticks each of its rows has the outcome that it had, or one of such a tick
+    pub told-own : (Is : ℕ → Type 0) → All (λ x. Is x.tick) added → All (λ a. IsOrTells Is (outcome_in results a.row) (outcome_in recorded a.row)) asked
+    told-own Is there =
+        All-both (λ (a : Asked n). outcome_in results a.row ≡ outcome_so_far shape xs a a.asks) (λ (a : Asked n). outcome_in recorded a.row ≡ outcome_so_far shape (added ++ xs) a a.asks)
+        (λ (a : Asked n). IsOrTells Is (outcome_in results a.row) (outcome_in recorded a.row))
+        (λ a before after. by a a.asks before after) asked had.recorded now.recorded
+      where
+        on : (row : ℕ) → outcome_in results row ≡ outcome_of shape xs row → outcome_in recorded row ≡ outcome_of shape (added ++ xs) row → IsOrTells Is (outcome_in results row) (outcome_in recorded row)
+        on row before after =
+            elim (told-by Is shape row added xs there) [
+              | inl same ↦ inl (after ∙ same ∙ sym before)
+              | inr when ↦ inr (when.0, when.1, ap tick_of after ∙ when.2)
+            ]
+
+        by : (a : Asked n) (asks : Asks n) → outcome_in results a.row ≡ outcome_so_far shape xs a asks → outcome_in recorded a.row ≡ outcome_so_far shape (added ++ xs) a asks
+            → IsOrTells Is (outcome_in results a.row) (outcome_in recorded a.row)
+        by a (Reads line) before after = on a.row before after
+        by a (Writes line bytes given) before after = on a.row before after
+        by a Cuts before after = inl (after ∙ sym before)
+
+    -- once the bank has come to the tick at which its next action ends, a row that stood there has no outcome yet, or has it at that tick
+    pub first-told : IsQuiet added → (to reached : ℕ) → reached ≡ next_end to clock → next.tick ≡ reached → (row : ℕ) → has_standing clock.bank row ≡ true → IsUnsetOrAt reached (outcome_in recorded row)
+    first-told quiet to reached is at row stands =
+        elim (of_named Told asked row (told-own (λ t. t ≡ reached) there) (standing-own row stands)) [
+          | inl same ↦ inl (ap tick_of (same ∙ standing-unset row stands))
+          | inr when ↦ inr (when.2 ∙ ap Some when.1)
+        ]
+      where
+        Told : ℕ → Type 0
+        Told row = IsOrTells (λ t. t ≡ reached) (outcome_in results row) (outcome_in recorded row)
+
+        there : All (λ x. x.tick ≡ reached) added
+        there = all-there xs clock array reads iters had.leads to reached is added lawful quiet (top reached at)

@@ -1,5 +1,5 @@
 -- How far a settle goes until a row has its outcome.
-use Rattle.std.specs.Prelude.{◌≡◌, ◌≢◌, ◌⊎◌, ℕ, ◌≤◌, List, Some, None}
+use Rattle.std.specs.Prelude.{◌≡◌, ◌≢◌, ◌⊎◌, ℕ, ◌<◌, ◌≤◌, List, Some, None}
 use Rattle.result_rows.specs.{Outcomes.tick_of, declared.Outcome.Outcome, declared.Outcome.TheVariants.Unset}
 use Rattle.bank_timing.specs.Extending.{outcome_in}
 use Rattle.trace_stream.specs.{declared.asked.Asked.Asked, declared.asked.Asked.TheVariants.{Happens, Settle, Query, Look, Until}, declared.asked.Until.Until as Waited}
@@ -8,6 +8,14 @@ module _ {n : ℕ} where
   -- a row has no outcome yet, or has it at this tick
   abbrev pub IsUnsetOrAt : ℕ → Outcome n → Type 0
   IsUnsetOrAt tick outcome = (tick_of outcome ≡ None) ⊎ (tick_of outcome ≡ Some tick)
+
+  -- an outcome came by a tick
+  abbrev pub CameBy : ℕ → Outcome n → Type 0
+  CameBy high outcome = (tick : ℕ) × (tick ≤ high) × (tick_of outcome ≡ Some tick)
+
+  -- an outcome came behind a tick, and by another one
+  abbrev pub CameBetween : ℕ → ℕ → Outcome n → Type 0
+  CameBetween low high outcome = (tick : ℕ) × ((low < tick) × (tick ≤ high)) × (tick_of outcome ≡ Some tick)
 
   -- a settle until went on to the first tick behind which its row has an outcome: none before the one at which the module stood; its own, where the row
   -- has no outcome yet; and where it went on at all, none behind the one at which the row has its outcome

@@ -6,13 +6,14 @@ use Rattle.result_rows.specs.{Outcomes.tick_of, declared.Outcome.Outcome}
 use Rattle.row_rules.specs.{Answers.is_queued, declared.Asks.Asks, declared.Asks.TheVariants.{Reads, Writes, Cuts}}
 use Rattle.trace_rows.specs.Rows.{asks_of}
 use Rattle.bank_model.specs.Timing.{TimedEvent}
+use Rattle.bank_timing.specs.Extending.{next_end}
 use Rattle.module_shape.specs.declared.raw.RawShape.{RawShape}
 use Rattle.right_runs.specs.Banks.{bank_of_line}
-use Rattle.pcm_module.specs.{Asking.asked_for, Replaying.Replays, Settling.IsAtTick, State.ModuleState, Telling.is_asked_of}
+use Rattle.pcm_module.specs.{Asking.asked_for, Replaying.Replays, Settling.IsAtTick, State.{ModuleState, bank_at}, Telling.{is_asked_of, rows_at}}
 use Rattle.row_printer.specs.{Printing.{Printing, table_of}, Snapshots.{AddsDue, is_due}, Telling.became, declared.snapshot.Snapshot.Snapshot, declared.told.Shown.Shown}
 use Rattle.row_printer.specs.{declared.told.Told.Told, declared.told.Told.TheVariants.{Looked, Settled}}
 use Rattle.trace_stream.specs.{Asked.events_in, declared.asked.Asked.Asked, declared.asked.Asked.TheVariants.{Happens, Settle, Query, Look, Until}}
-use Rattle.row_stream.specs.{Answering.banks_told, Asking.tick_reached, Looking.{IsSnapshot, wear_of}, Reaching.ReachesBy}
+use Rattle.row_stream.specs.{Answering.banks_told, Asking.tick_reached, Looking.{IsSnapshot, wear_of}, Reaching.{CameBetween, CameBy, ReachesBy}}
 
 module _ {n m e : ℕ} (raw : RawShape) (seed : ℕ) where
   -- a module of these sizes and this seed was handed these events, and histories of its banks, which asked for exactly these, led to it over the
@@ -24,6 +25,11 @@ module _ {n m e : ℕ} (raw : RawShape) (seed : ℕ) where
     pub bound : module_.rows_below ≤ length events + 1
     pub size : length outcomes ≡ length events
     pub replays : Replays h (asked_for events) module_ array outcomes
+
+-- the tick of the last of some turns: of the first one, or of the newest behind it
+abbrev pub last_turn : ℕ → List ℕ → ℕ
+last_turn first [] = first
+last_turn first (tick ∷ ticks) = tick
 
 module _ {n : ℕ} where
   -- outcomes in the order of their ticks, from this tick on: from one to the next no tick falls, and none is that of a write that stays queued
@@ -64,21 +70,23 @@ module _ {n : ℕ} (raw : RawShape) (seed : ℕ) where
   ComeFor events row (Writes line bytes given) outcomes = ComeOfBank false events (bank_of_line raw seed line) outcomes
   ComeFor events row Cuts outcomes = ComeBehind events row outcomes
 
-  -- outcomes that were told turn by turn, in each of so many turns bank by bank
-  abbrev pub ComeByTurns : List (Event n) → ℕ → List (ℕ × Outcome n) → Type 0
-  ComeByTurns events zero outcomes = outcomes ≡ []
-  ComeByTurns events (suc turns) outcomes =
-      (earlier : List (ℕ × Outcome n)) × (own : List (ℕ × Outcome n)) × (outcomes ≡ earlier ++ own) × ComeByTurns events turns earlier
-      × ComeByBanks false events raw.banks own
+  -- outcomes that were told turn by turn, in each turn bank by bank, from this tick on, and then at ticks that rise, of which the newest stands first: in the first
+  -- turn what came by its tick, and in each one more what came behind the tick of the turn before and by its own
+  abbrev pub ComeByTurns : List (Event n) → ℕ → List ℕ → List (ℕ × Outcome n) → Type 0
+  ComeByTurns events first [] outcomes = ComeByBanks false events raw.banks outcomes × All (λ one. CameBy first one.1) outcomes
+  ComeByTurns events first (tick ∷ ticks) outcomes =
+      (earlier : List (ℕ × Outcome n)) × (own : List (ℕ × Outcome n)) × (outcomes ≡ earlier ++ own) × ComeByTurns events first ticks earlier
+      × (last_turn first ticks < tick) × ComeByBanks false events raw.banks own × All (λ one. CameBetween (last_turn first ticks) tick one.1) own
 
-  -- the outcomes that are told as a row is served, behind these events: of an event what comes for it; of what settles bank by bank, and of a settle until so
-  -- turn by turn, one for each tick to which the banks came
-  abbrev pub ComeInOrder : Asked n → List (Event n) → List (ℕ × Outcome n) → Type 0
-  ComeInOrder (Happens event) before outcomes = ComeFor (event ∷ before) (length before + 1) (asks_of event.op) outcomes
-  ComeInOrder (Settle tick) before outcomes = ComeByBanks false before raw.banks outcomes
-  ComeInOrder (Query tick) before outcomes = ComeByBanks false before raw.banks outcomes
-  ComeInOrder (Look tick) before outcomes = ComeByBanks false before raw.banks outcomes
-  ComeInOrder (Until until) before outcomes = (turns : ℕ) × ComeByTurns before turns outcomes
+  -- the outcomes that are told as a row is served, behind these rows: of an event what comes for it; of what settles bank by bank, and of a settle until so
+  -- turn by turn, from the tick that was reached before to the one that it reaches
+  abbrev pub ComeInOrder : Asked n → List (Asked n) → List (ℕ × Outcome n) → Type 0
+  ComeInOrder (Happens event) before outcomes = ComeFor (event ∷ events_in before) (length (events_in before) + 1) (asks_of event.op) outcomes
+  ComeInOrder (Settle tick) before outcomes = ComeByBanks false (events_in before) raw.banks outcomes
+  ComeInOrder (Query tick) before outcomes = ComeByBanks false (events_in before) raw.banks outcomes
+  ComeInOrder (Look tick) before outcomes = ComeByBanks false (events_in before) raw.banks outcomes
+  ComeInOrder (Until until) before outcomes =
+      (ticks : List ℕ) × (until.reached ≡ last_turn (tick_reached before) ticks) × ComeByTurns (events_in before) (tick_reached before) ticks outcomes
 
 -- the lines that answer a row besides outcomes, at the module and the array behind it: of a settle its tick, of a query what waits in each bank before
 -- it, of a look how worn the array is before it, and of a settle until the tick that it reached
@@ -96,6 +104,11 @@ is_due_behind shown (Settle tick) rows = false
 is_due_behind shown (Query tick) rows = false
 is_due_behind shown (Look tick) rows = false
 is_due_behind shown (Until until) rows = false
+
+-- a row stands in a bank of a module, and this is the tick at which the action ends that runs there next, but at most a limit
+abbrev pub IsNextTurn : {n m e : ℕ} → (row limit : ℕ) → ModuleState n m e → ℕ → Type 0
+IsNextTurn row limit module_ tick =
+    (bank : ℕ) × (bank < module_.shape.banks) × (rows_at module_ bank row ≡ true) × (tick ≡ next_end limit (bank_at module_ bank))
 
 module _ {n m : ℕ} (e : ℕ) (raw : RawShape) (seed : ℕ) where
   -- behind a settle, a query or a look each bank has come to its tick, and behind a settle until to the one that it reached
@@ -117,15 +130,51 @@ module _ {n m : ℕ} (e : ℕ) (raw : RawShape) (seed : ℕ) where
     pub settled : HasSettled asked module_
     pub reached : ReachesBy (tick_reached before) asked (table_of (length (events_in (asked ∷ before))) told)
 
+  -- by these histories, which gave exactly the outcomes that were told, the banks of a module came to a tick, each of them
+  pub record HaveCome (tick : ℕ) (before : List (Asked n)) (h : ℕ → List (TimedEvent n m)) (module_ : ModuleState n m e) (array : ArrayState n m) (told : List (Told n)) : Type 0 where
+    pub served : HasServed raw seed (events_in before) h module_ array (table_of (length (events_in before)) told)
+    pub settled : (bank : ℕ) → bank < module_.shape.banks → IsSomeAnd (slice_get module_.banks bank) (IsAtTick tick)
+
+  -- a settle until, behind rows of which this was told, brought the banks from turn to turn to these ticks: first to the one that was reached before, and then each
+  -- time to the next one at which an action ends of the bank where its row stands. As they came to a tick, what they had done by it was told
+  abbrev pub TakesTurns : (row limit : ℕ) → List (Asked n) → (ℕ → List (TimedEvent n m)) → List (Told n) → List ℕ
+      → (ℕ → List (TimedEvent n m)) → ModuleState n m e → ArrayState n m → List (ℕ × Outcome n) → Type 0
+  TakesTurns row limit before earlier said [] h module_ array outcomes =
+      (added : ℕ → List (TimedEvent n m)) × ((bank : ℕ) → h bank ≡ added bank ++ earlier bank)
+      × HaveCome (tick_reached before) before h module_ array (said ++ became outcomes)
+  TakesTurns row limit before earlier said (tick ∷ ticks) h module_ array outcomes =
+      (between : ℕ → List (TimedEvent n m)) × (stood : ModuleState n m e) × (held : ArrayState n m) × (known : List (ℕ × Outcome n))
+      × TakesTurns row limit before earlier said ticks between stood held known × IsNextTurn row limit stood tick
+      × (own : List (ℕ × Outcome n)) × (outcomes ≡ known ++ own)
+      × (added : ℕ → List (TimedEvent n m)) × ((bank : ℕ) → h bank ≡ added bank ++ between bank)
+      × HaveCome tick before h module_ array (said ++ became outcomes)
+
+  -- where a row is a settle until, it took the turns in whose order outcomes were told
+  abbrev pub GoesByTurns : (asked : Asked n) (before : List (Asked n)) (earlier : ℕ → List (TimedEvent n m)) (said : List (Told n)) (outcomes : List (ℕ × Outcome n))
+      → ComeInOrder raw seed asked before outcomes → (ℕ → List (TimedEvent n m)) → ModuleState n m e → ArrayState n m → Type 0
+  GoesByTurns (Happens event) before earlier said outcomes order h module_ array = Unit {0}
+  GoesByTurns (Settle tick) before earlier said outcomes order h module_ array = Unit {0}
+  GoesByTurns (Query tick) before earlier said outcomes order h module_ array = Unit {0}
+  GoesByTurns (Look tick) before earlier said outcomes order h module_ array = Unit {0}
+  GoesByTurns (Until until) before earlier said outcomes order h module_ array =
+      TakesTurns until.row until.limit before earlier said order.0 h module_ array outcomes
+
   -- row by row: rows that asked this brought these histories about, and this was told of them. As each row was served, the outcomes were told that
-  -- the histories gave then and hadn't given before, no others, bank by bank, and behind them the lines of the row, by the module as it then was
+  -- the histories gave then and hadn't given before, no others, bank by bank, and behind them the lines of the row, by the module as it then was; a settle until
+  -- went by its turns
   abbrev pub TellsAlong : List (Asked n) → (ℕ → List (TimedEvent n m)) → List (Told n) → Type 0
   TellsAlong [] h told = (h ≡ (λ bank. [])) × (told ≡ [])
   TellsAlong (asked ∷ before) h told =
       (earlier : ℕ → List (TimedEvent n m)) × (said : List (Told n)) × TellsAlong before earlier said
       × (added : ℕ → List (TimedEvent n m)) × (h ≡ (λ bank. added bank ++ earlier bank))
-      × (outcomes : List (ℕ × Outcome n)) × ComeInOrder raw seed asked (events_in before) outcomes
+      × (outcomes : List (ℕ × Outcome n)) × (order : ComeInOrder raw seed asked before outcomes)
       × (known : AreKnown asked before h told) × (told ≡ (said ++ became outcomes) ++ lines_of asked known.module_ known.array)
+      × GoesByTurns asked before earlier said outcomes order h known.module_ known.array
+
+  -- the lines of the last of these rows were told of this module and this array
+  abbrev pub IsToldOf : ModuleState n m e → ArrayState n m → (asked : List (Asked n)) (h : ℕ → List (TimedEvent n m)) (told : List (Told n)) → TellsAlong asked h told → Type 0
+  IsToldOf module_ array [] h told along = Unit {0}
+  IsToldOf module_ array (asked ∷ before) h told along = (along.7.module_ ≡ module_) × (along.7.array ≡ array)
 
   -- the snapshots that were taken of them: each stands behind a row with a number where one is due, and says what that row left
   abbrev pub SnapsAlong : Shown → (asked : List (Asked n)) (h : ℕ → List (TimedEvent n m)) (told : List (Told n)) → TellsAlong asked h told → List Snapshot → Type 0
@@ -135,11 +184,13 @@ module _ {n m : ℕ} (e : ℕ) (raw : RawShape) (seed : ℕ) where
       × AddsDue (is_due_behind shown asked (length (events_in (asked ∷ before))))
       (IsSnapshot (length (events_in (asked ∷ before))) (tick_reached (asked ∷ before)) told along.7.module_ along.7.array) earlier snapshots
 
--- rows that asked this were served by a module over an array, and told by a printer that knows of so many rows and took these snapshots
+-- rows that asked this were served by a module over an array, and told by a printer that knows of so many rows and took these snapshots: what the last row says, and
+-- a snapshot behind it, is of this very module and array
 pub record IsServing {n m e : ℕ} (raw : RawShape) (seed : ℕ) (asked : List (Asked n)) (module_ : ModuleState n m e) (array : ArrayState n m) (places : ℕ) (told : List (Told n)) (shown : Shown) (snapshots : List Snapshot) : Type 0 where
   pub history : ℕ → List (TimedEvent n m)
   pub along : TellsAlong e raw seed asked history told
   pub snaps : SnapsAlong e raw seed shown asked history told along snapshots
+  pub now : IsToldOf e raw seed module_ array asked history told along
   pub served : HasServed raw seed (events_in asked) history module_ array (table_of places told)
   pub counted : places ≡ length (events_in asked)
   pub tick : module_.tick ≡ tick_reached asked

@@ -73,3 +73,10 @@ pub record Writes {n : ℕ} {K : Type 0} (written : K → Option (List ℕ)) (fa
   pub whole : IsWritten step → (before : Option (List ℕ)) (first : ℕ) → IsPrinting written faults before first out → Appends before (written now.sink) (text_told now)
   pub part : step ≡ Stops Output → (before : Option (List ℕ)) (first : ℕ) → IsPrinting written faults before first out
       → AppendsPrefix before (written now.sink) (text_told now) × Rose first (faults now.sink)
+
+-- a source wasn't touched; or by then all that a printer had been told was written
+abbrev pub AsksBehind : {n : ℕ} {S K : Type 0} (written : K → Option (List ℕ)) (faults : K → ℕ) (source rest : S) (out : Printing n K) → Type 0
+AsksBehind {n} {S} {K} written faults source rest out =
+    (rest ≡ source)
+    ⊎ ((by : Printing n K) × TellsNoMore out by
+    × ((before : Option (List ℕ)) (first : ℕ) → IsPrinting written faults before first out → Appends before (written by.sink) (text_told by)))

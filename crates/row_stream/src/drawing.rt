@@ -11,11 +11,14 @@ ghost use Rattle.trace_stream.specs.Laws.{all_events};
 ghost use Rattle.trace_stream.specs.declared.asked.Asked.{Asked as StreamAsked};
 ghost use Rattle.row_printer.specs.Printing.{IsPrinting, text_told};
 ghost use Rattle.row_stream.specs.Asking.{BeginsWith, behind_of};
+ghost use Rattle.drawn_parts.specs.Parts.{drawn_for};
 ghost use Rattle.row_stream.specs.Refusing.{EndsBehind, WentOn};
 ghost use Rattle.row_stream.specs.Serving.{IsServing, told_so_far};
 
 use crate::serving::serve_event;
 use crate::stop::{Behind, behind_event, stops_behind};
+use drawn_parts::{Banks, next_for};
+use feistel_map::Feistel;
 use pcm_io::{Sink, WriteFault};
 use pcm_module::Module;
 use row_printer::RowPrinter;
@@ -23,7 +26,7 @@ use trace_gen::laws::long_events_are_lawful;
 use trace_gen::{Generator, Mix};
 use wear_totals::TellsWear;
 
-/// Serves the rows that a seed draws, one after the other, or, where it is to stop at a refusal, up to the first row that is refused, and then
+/// Serves the rows of some banks that a seed draws, one after the other, or, where it is to stop at a refusal, up to the first row that is refused, and then
 /// writes what became known by them. Nothing is read meanwhile, so lines are gathered and written where they are many. Answers how the module
 /// stands behind the last row.
 pub fn serve_drawn<
@@ -37,6 +40,7 @@ pub fn serve_drawn<
     array: &mut A,
     seed: u64,
     mix: Mix,
+    banks: Banks,
     stops: bool,
     out: &mut RowPrinter<B, K>,
 ) -> Result<Behind, WriteFault>
@@ -51,15 +55,17 @@ pub fn serve_drawn<
         → (asked : List (StreamAsked B)) × (had : IsServing raw own asked pcm.new
         (A.state array.new) out.new.rows out.new.told out.new.prints out.new.snapshots)
         × (behind ≡ behind_of asked) × EndsBehind stops asked (told_so_far had)
-        (reverse asked ≡ all_events (generated B seed (total_of raw) mix))
-        (BeginsWith asked (all_events (generated B seed (total_of raw) mix)))) }
+        (reverse asked ≡ all_events (drawn_for raw seed banks (generated B seed (total_of raw) mix)))
+        (BeginsWith asked
+        (all_events (drawn_for raw seed banks (generated B seed (total_of raw) mix))))) }
     ensures few { out.new.rows < 4294967295 }
     ensures stopped { OnErr result ((raw : RawShape) (own : ℕ)
         → IsServing raw own [] pcm.old (A.state array.old) out.old.rows out.old.told out.old.prints
         out.old.snapshots
         → (asked : List (StreamAsked B)) × (had : IsServing raw own asked pcm.new
         (A.state array.new) out.new.rows out.new.told out.new.prints out.new.snapshots)
-        × BeginsWith asked (all_events (generated B seed (total_of raw) mix))
+        × BeginsWith asked
+        (all_events (drawn_for raw seed banks (generated B seed (total_of raw) mix)))
         × WentOn stops asked (told_so_far had)) }
     ensures prints { out.new.prints ≡ out.old.prints }
     ensures printing { (before : Option (List ℕ)) (first : ℕ)
@@ -75,9 +81,11 @@ pub fn serve_drawn<
     ensures wear { (A.state array.new).wear ≡ (A.state array.old).wear }
 {
     long_events_are_lawful();
-    let mut generator = Generator::<B>::long(seed, pcm.shape().total(), mix);
+    let shape = *pcm.shape();
+    let mut generator = Generator::<B>::long(seed, shape.total(), mix);
+    let feistel = Feistel::new(shape.address_bits(), seed);
     let mut behind = Behind::Nothing;
-    'rows: while let Some(event) = generator.next_event() {
+    'rows: while let Some(event) = next_for(&mut generator, &feistel, &shape, banks) {
         serve_event(pcm, array, &event, out);
         behind = behind_event(&event.op);
         if out.broken() {

@@ -12,7 +12,7 @@ ghost use Rattle.row_printer.specs.Printing.{IsPrinting, table_told, text_told};
 ghost use Rattle.row_printer.specs.Refusing.{any_refused};
 ghost use Rattle.row_stream.specs.Serving.{MayServe};
 ghost use Rattle.row_stream.specs.Sourcing.{StopsLate};
-ghost use Rattle.row_stream.specs.Stepping.{GoesOn, Steps, TakesRow, TellsNoMore, Writes};
+ghost use Rattle.row_stream.specs.Stepping.{AsksBehind, GoesOn, Steps, TakesRow, TellsNoMore, Writes};
 
 use crate::next::next_row;
 use crate::serving::{serve, serve_event};
@@ -24,7 +24,7 @@ use trace_reader::{Event, Kind, TraceFault};
 use trace_stream::{Asked, TraceStream};
 use wear_totals::TellsWear;
 
-/// Takes the next row: an event that has come whole, or else what the source gives. An event goes to the module as it was read: put among all
+/// Takes the next row: an event that has come whole, or else what the source gives, which is asked only once all that is known is written. An event goes to the module as it was read: put among all
 /// that may be asked it would be copied.
 pub fn take_next<
     const B: usize,
@@ -51,6 +51,7 @@ pub fn take_next<
         (A.state array.new) source.old source.new stream.old stream.new out.old out.new
         behind result }
     ensures writes { Writes K.written K.faults out.old out.new result }
+    ensures waits { AsksBehind K.written K.faults source.old source.new out.old }
     ensures wear { (A.state array.new).wear ≡ (A.state array.old).wear }
     ensures never_falls { S.faults source.old ≤ S.faults source.new }
 {
@@ -87,6 +88,7 @@ fn take_given<
         (A.state array.new) source.old source.new stream.old stream.new out.old out.new
         behind result }
     ensures writes { Writes K.written K.faults out.old out.new result }
+    ensures waits { AsksBehind K.written K.faults source.old source.new out.old }
     ensures wear { (A.state array.new).wear ≡ (A.state array.old).wear }
     ensures never_falls { S.faults source.old ≤ S.faults source.new }
 {

@@ -37,6 +37,8 @@ pub fn serve_until<
         → IsPrinting K.written K.faults before first out.old
         → IsPrinting K.written K.faults before first out.new }
 {
+    // Its sizes make known that each line's bank is one of the module's.
+    let _ = pcm.shape();
     let tick = pcm.tick();
     pcm.settle(array, tick, out);
     out.tells_once();

@@ -53,6 +53,43 @@ abbrev pub known_of : {n m : ℕ} → Bool → BankShape → List (TimedEvent n 
 known_of true shape xs a asks = last_outcome shape xs a asks
 known_of false shape xs a asks = outcome_so_far shape xs a asks
 
+-- of a history and one that it goes on to, with a tick between them
+module _ {n m : ℕ} (e : ℕ) (shape : BankShape) (pace : Pace) (xs since : List (TimedEvent n m)) (lawful : Lawful shape pace e (since ++ xs)) (tick : ℕ)
+    (up-to-now : All (λ (x : TimedEvent n m). x.tick ≤ tick) xs) (since-from : All (λ (x : TimedEvent n m). tick ≤ x.tick) since) where
+  by-events : (row : ℕ) → IsRight tick (outcome_of shape xs row) (outcome_of shape (since ++ xs) row)
+  by-events row = record {
+    told = so-far shape row (λ t. t ≤ tick) xs up-to-now;
+    stays = λ set. set_once_law n m e shape pace since xs row lawful set;
+    rest = λ unset set. elim (since-then shape row (λ t. tick ≤ t) since xs since-from) [
+      | inl same ↦ absurd (set (same ∙ unset))
+      | inr from ↦ is-from tick (outcome_of shape (since ++ xs) row) from
+    ];
+  }
+
+  by-asks : (over : Bool) (a : Asked n) (asks : Asks n) → a.tick ≤ tick
+      → IsRight tick (outcome_so_far shape xs a asks) (known_of over shape (since ++ xs) a asks)
+  by-asks true a (Reads line) low = by-events a.row
+  by-asks true a (Writes line bytes given) low =
+      right-ended tick a.tick (outcome_of shape xs a.row) (outcome_of shape (since ++ xs) a.row) (by-events a.row)
+  by-asks true a Cuts low = record { told = low; stays = λ set. refl; rest = λ unset set. absurd (cc unset) }
+  by-asks false a (Reads line) low = by-events a.row
+  by-asks false a (Writes line bytes given) low = by-events a.row
+  by-asks false a Cuts low = record { told = low; stays = λ set. refl; rest = λ unset set. absurd (cc unset) }
+
+  -- so it is of each row that was asked of the bank by then
+  pub each-right : (over : Bool) (asked : List (Asked n)) (by_then in_the_end : ℕ → Outcome n)
+      → All (λ (a : Asked n). by_then a.row ≡ outcome_so_far shape xs a a.asks) asked
+      → All (λ (a : Asked n). in_the_end a.row ≡ known_of over shape (since ++ xs) a a.asks) asked
+      → All (λ (a : Asked n). a.tick ≤ tick) asked → All (λ (a : Asked n). IsRight tick (by_then a.row) (in_the_end a.row)) asked
+  each-right over asked by_then in_the_end before after low = λ k d below.
+      by (get_or asked k d) (low k d below) (before k d below) (after k d below)
+    where
+      by : (a : Asked n) → a.tick ≤ tick → by_then a.row ≡ outcome_so_far shape xs a a.asks → in_the_end a.row ≡ known_of over shape (since ++ xs) a a.asks
+          → IsRight tick (by_then a.row) (in_the_end a.row)
+      by a low before after =
+          right-so tick tick (by_then a.row) (in_the_end a.row) (outcome_so_far shape xs a a.asks) (known_of over shape (since ++ xs) a a.asks)
+          refl before after (by-asks over a a.asks low)
+
 -- of a bank that stands at a tick, what it is asked from now on, and the history that this leaves
 module _ {n m e : ℕ} (shape : BankShape) (pace : Pace) (now rows : ℕ) (xs : List (TimedEvent n m)) (asked : List (Asked n)) (array : ArrayState n m) (results : List (Outcome n))
     (clock : ClockState n m e) (had : BankReplays shape pace now rows xs asked array results clock) (read : 1 ≤ pace.read) (iter : 1 ≤ pace.iter)
@@ -70,33 +107,7 @@ module _ {n m e : ℕ} (shape : BankShape) (pace : Pace) (now rows : ℕ) (xs : 
       All-weaker (λ (x : TimedEvent n m). x.tick ≤ last_tick xs) (λ (x : TimedEvent n m). x.tick ≤ clock.tick) (λ x low. omega (arith, low, had.leads.told.now)) xs
       (ticks-up_to shape pace e xs read iter (lawful_before shape pace e since xs lawful))
 
-  by-events : (row : ℕ) → IsRight clock.tick (outcome_of shape xs row) (outcome_of shape (since ++ xs) row)
-  by-events row = record {
-    told = so-far shape row (λ t. t ≤ clock.tick) xs up-to-now;
-    stays = λ set. set_once_law n m e shape pace since xs row lawful set;
-    rest = λ unset set. elim (since-then shape row (λ t. clock.tick ≤ t) since xs since-from) [
-      | inl same ↦ absurd (set (same ∙ unset))
-      | inr from ↦ is-from clock.tick (outcome_of shape (since ++ xs) row) from
-    ];
-  }
-
-  by-asks : (over : Bool) (a : Asked n) (asks : Asks n) → a.tick ≤ clock.tick
-      → IsRight clock.tick (outcome_so_far shape xs a asks) (known_of over shape (since ++ xs) a asks)
-  by-asks true a (Reads line) low = by-events a.row
-  by-asks true a (Writes line bytes given) low =
-      right-ended clock.tick a.tick (outcome_of shape xs a.row) (outcome_of shape (since ++ xs) a.row) (by-events a.row)
-  by-asks true a Cuts low = record { told = low; stays = λ set. refl; rest = λ unset set. absurd (cc unset) }
-  by-asks false a (Reads line) low = by-events a.row
-  by-asks false a (Writes line bytes given) low = by-events a.row
-  by-asks false a Cuts low = record { told = low; stays = λ set. refl; rest = λ unset set. absurd (cc unset) }
-
   -- so it is of each row that was asked of the bank so far
   pub asked-right : All (λ (a : Asked n). a.tick ≤ clock.tick) asked → All (λ (a : Asked n). IsRight clock.tick (outcome_in results a.row) (outcome a.row)) asked
-  asked-right in_time = λ k d below.
-      by (get_or asked k d) (in_time k d below) (had.recorded k d below) (recorded k d below)
-    where
-      by : (a : Asked n) → a.tick ≤ clock.tick → outcome_in results a.row ≡ outcome_so_far shape xs a a.asks → outcome a.row ≡ known_of over shape (since ++ xs) a a.asks
-          → IsRight clock.tick (outcome_in results a.row) (outcome a.row)
-      by a low before after =
-          right-so clock.tick clock.tick (outcome_in results a.row) (outcome a.row) (outcome_so_far shape xs a a.asks) (known_of over shape (since ++ xs) a a.asks)
-          refl before after (by-asks over a a.asks low)
+  asked-right in_time =
+      each-right e shape pace xs since lawful clock.tick up-to-now since-from over asked (outcome_in results) outcome had.recorded recorded in_time

@@ -6,3 +6,7 @@ mod Rows
 mod Lines
 mod Along
 mod Law
+mod Deciding
+mod Exhausting
+mod Turned
+mod Turning

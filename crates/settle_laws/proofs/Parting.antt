@@ -6,7 +6,7 @@ use Rattle.module_laws.specs.Asking.{Asked, AreAsked, IsAsked}
 use Rattle.settle_laws.proofs.Later.{IsLateRow, is_row}
 
 -- lists whose rests are as long have the same front
-front-same : {A : Type 0} (xs ys us vs : List A) → xs ++ ys ≡ us ++ vs → length ys ≡ length vs → xs ≡ us
+pub front-same : {A : Type 0} (xs ys us vs : List A) → xs ++ ys ≡ us ++ vs → length ys ≡ length vs → xs ≡ us
 front-same xs ys us vs same size =
     let whole : length (xs ++ ys) ≡ length (us ++ vs) = ap length same in
     let long : length us ≡ length xs = omega (arith, whole, size, length-append xs ys, length-append us vs) in
@@ -18,12 +18,12 @@ Late tick a = tick ≤ a.tick
 
 module _ {n m : ℕ} where
   -- how many of these events are rows
-  rows-in : List (TimedEvent n m) → ℕ
+  pub rows-in : List (TimedEvent n m) → ℕ
   rows-in [] = 0
   rows-in (x ∷ xs) = cond (is_row x.happens x.cancels) (suc (rows-in xs)) (rows-in xs)
 
   -- so many were asked for
-  sized : (xs : List (TimedEvent n m)) (asked : List (Asked n)) → AreAsked xs asked → length asked ≡ rows-in xs
+  pub sized : (xs : List (TimedEvent n m)) (asked : List (Asked n)) → AreAsked xs asked → length asked ≡ rows-in xs
   unfolding rows-in
   sized [] asked none = ap length none
   sized (x ∷ xs) asked is = by x.happens x.cancels asked is (λ rest are. sized xs rest are)

@@ -49,7 +49,7 @@ module _ {n : ℕ} (home number : ℕ → ℕ) (banks lines : ℕ) (exists : (li
       (eq-eqb (home line) (home line) refl) (all (home line) (exists line of))
   first-row row tick Cuts asked of all = first-of 0 (record { row = row; tick = tick; asks = Cuts }) (own-of 0 asked) true refl (all 0 some)
 
-  each-row : (asked : List (Asked n)) → All (λ (a : Asked n). IsOfLines lines a.asks) asked → ((bank : ℕ) → bank < banks → All Holds (asked_of home number bank asked)) → All Holds asked
+  pub each-row : (asked : List (Asked n)) → All (λ (a : Asked n). IsOfLines lines a.asks) asked → ((bank : ℕ) → bank < banks → All Holds (asked_of home number bank asked)) → All Holds asked
   each-row [] of all = All-nil Holds
   each-row (a ∷ asked) of all =
       All-cons Holds a asked (first-row a.row a.tick a.asks asked (All-head (λ (a : Asked n). IsOfLines lines a.asks) a asked of) all)
@@ -65,11 +65,11 @@ row-of {n = n} P (event ∷ below) all row least most = elim (cases_eq row (leng
 
 module _ {n : ℕ} where
   -- what later events ask, behind earlier ones
-  abbrev in-front : List (Event n) → List (Event n) → List (Asked n)
+  abbrev pub in-front : List (Event n) → List (Event n) → List (Asked n)
   in-front [] events = []
   in-front (event ∷ later) events = asked_by (length (later ++ events) + 1) event ∷ in-front later events
 
-  front-asked : (later events : List (Event n)) → asked_for (later ++ events) ≡ in-front later events ++ asked_for events
+  pub front-asked : (later events : List (Event n)) → asked_for (later ++ events) ≡ in-front later events ++ asked_for events
   front-asked [] events = refl
   front-asked (event ∷ later) events = ap (λ (rest : List (Asked n)). asked_by (length (later ++ events) + 1) event ∷ rest) (front-asked later events)
 
@@ -81,7 +81,7 @@ module _ {n : ℕ} where
       (front-late tick later events (All-tail (λ (event : Event n). tick ≤ event.tick) event later late))
 
   module _ (home number : ℕ → ℕ) (bank : ℕ) where
-    own-both : (xs ys : List (Asked n)) → asked_of home number bank (xs ++ ys) ≡ asked_of home number bank xs ++ asked_of home number bank ys
+    pub own-both : (xs ys : List (Asked n)) → asked_of home number bank (xs ++ ys) ≡ asked_of home number bank xs ++ asked_of home number bank ys
     own-both xs ys =
         ap (map (asked_in home number)) (filter-append (λ (a : Asked n). is_of home bank a.asks) xs ys)
         ∙ map-append (asked_in home number) (filter (λ (a : Asked n). is_of home bank a.asks) xs) (filter (λ (a : Asked n). is_of home bank a.asks) ys)

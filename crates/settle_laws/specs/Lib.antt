@@ -1,2 +1,4 @@
 pub mod Settles
 pub mod Streams
+pub mod Turns
+pub mod Marks

@@ -1,9 +1,11 @@
 //! What a stream has told by the tick of a row that settles, of any of them: it was told in time, and stays; and of the rows that had come
-//! the rest comes from that tick on. A law is what a function here ensures; the functions do nothing when they run.
+//! the rest comes from that tick on. And what it has told behind each row, bank by bank. A law is what a function here ensures; the functions do nothing when they run.
 #![tactic(auto)]
 
+ghost use Rattle.settle_laws.specs.Marks.{EndedMarkLaw, MarkLaw};
 ghost use Rattle.settle_laws.specs.Settles.{SettledLaw, SoFarLaw};
 ghost use Rattle.settle_laws.specs.Streams.{BegunStreamLaw, WholeStreamLaw};
+ghost use Rattle.settle_laws.specs.Turns.{EndedTurnLaw, TurnLaw};
 
 use pcm_io::Source;
 
@@ -26,3 +28,19 @@ pub fn streams_settle_for_good<S: Source>()
     what_is_told_by_a_settle_stays();
     what_is_told_by_a_settle_stays_so_far();
 }
+
+/// Behind each row, whatever it asks, what was decided as a row came is told, and of one bank nothing that is told later has an earlier tick.
+pub fn outcomes_are_told_in_turn()
+    ensures { EndedTurnLaw }
+{}
+
+/// So it is while a stream goes on, of what is known by now.
+pub fn outcomes_are_told_in_turn_so_far()
+    ensures { TurnLaw }
+{}
+
+/// Of a bank that a query tells as exhausted no write that comes later is accepted.
+pub fn exhausted_banks_accept_nothing()
+    ensures ended { EndedMarkLaw }
+    ensures so_far { MarkLaw }
+{}

@@ -1,6 +1,7 @@
 //! Laws of streamed traces and printed ones. A law is what a function here ensures; the functions do nothing when they run.
 #![tactic(auto)]
 
+ghost use Rattle.stream_laws.specs.Drawing.{EveryBankLaw};
 ghost use Rattle.stream_laws.specs.Laws.{DrawnLaw, TextLaw};
 ghost use Rattle.stream_laws.specs.Lines.{LineLaw, ResultLaw, SortedLaw};
 
@@ -28,4 +29,9 @@ pub fn results_are_lines()
 /// the same outcomes, without operation and line.
 pub fn streams_are_results()
     ensures { SortedLaw }
+{}
+
+/// What is drawn for every bank of a module is all that is drawn.
+pub fn what_is_drawn_for_every_bank_is_all()
+    ensures { EveryBankLaw }
 {}

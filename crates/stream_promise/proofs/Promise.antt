@@ -1,10 +1,14 @@
 -- What a stream promises along the histories of its banks it promises by its rows.
-use Rattle.std.proofs.Common.{◌≡◌, ◌&&◌, inl, inr, ℕ, ◌<◌, Bool, true, List, Option, Result, Ok, Err, length, refl, ap, sym, subst, ◌∙◌}
+use Rattle.std.proofs.Common.{◌≡◌, ◌&&◌, inl, inr, ℕ, ◌*◌, Bool, true, List, Option, Result, Ok, Err, length, refl, ap, subst, ◌∙◌}
 use Rattle.std.specs.Prelude.{reverse}
 use Rattle.cell_rows.specs.Device.{ArrayState}
 use Rattle.command_line.specs.{declared.job.Input.Input, declared.job.Input.TheVariants.{Source, Drawn}, declared.job.LineSize.LineSize}
 use Rattle.command_line.specs.{declared.job.LineSize.TheVariants.{Bytes64, Bytes128}, declared.job.Refusal.Refusal}
-use Rattle.module_shape.specs.{Limits.total_of, declared.raw.RawShape.RawShape}
+use Rattle.row_rules.specs.declared.Row.{Row}
+use Rattle.module_shape.specs.{Addresses.{array_lines_of, module_of}, Limits.{IsShape, total_of}, declared.raw.RawShape.RawShape}
+use Rattle.right_runs.specs.Runs.{EndsTo}
+use Rattle.run_laws.specs.FinishedLaws.{ends_of}
+use Rattle.drawn_parts.specs.Parts.{drawn_for}
 use Rattle.trace_gen.specs.Generated.{generated}
 use Rattle.program_calls.specs.Calls.{Lent, SinkChange}
 use Rattle.row_printer.specs.{Printing.table_of, Snapshots.{AddsDue, takes_snapshots}, declared.snapshot.Snapshot.Snapshot, declared.told.Told.Told}
@@ -18,43 +22,50 @@ use Rattle.stream_top.specs.Streams.{BeginsInPart, BreaksOff, ComeFrom, GoesAsFa
 use Rattle.stream_top.specs.{Streams.{stops_at_refusal, told_in_part}, declared.done.Done.Done, declared.fault.Fault.Fault}
 use Rattle.stream_top.specs.declared.fault.Fault.TheVariants.{Usage, Trace, Read, Write, TooLong, NoMemory}
 use Rattle.moment_laws.specs.Moments.{MomentLaw}
-use Rattle.settle_laws.specs.Streams.{BegunStreamLaw, WholeStreamLaw}
+use Rattle.settle_laws.specs.{Marks.{EndedMarkLaw, MarkLaw}, Streams.{BegunStreamLaw, WholeStreamLaw}, Turns.{EndedTurnLaw, TurnLaw}}
 use Rattle.snapshot_laws.specs.Rising.{EndedLaw, SoFarLaw}
 use Rattle.stream_promise.specs.Promise.{BeginsInPartByRows, BreakByRows, BreaksByRows, BreaksOnRows, ComeByRows, DoesByRows, DoesOnRows, EndsInPartByRows, EndsRows, GoesOnTo}
-use Rattle.stream_promise.specs.Promise.{IsServedByRows, IsServedInPartByRows, LastSnapshotLaw, PromisesByRows, StopByRows, StopsByRows, StopsOnRows, StreamsByRows}
+use Rattle.stream_promise.specs.Promise.{IsServedByRows, IsServedInPartByRows, LastSnapshotLaw, PromisesByRows, StopByRows, StopsByRows, StopsOnRows, StreamsByRows, rows_so_far}
 use Rattle.stream_promise.specs.Rows.{is_refusal_told}
-use Rattle.stream_promise.proofs.{Rows.{adds, by-rows, counts-rows, cut-same, end-where, rows-of, snaps-by-rows, without-refusal, without-refusal-before}, Spares.used-alike}
-use Rattle.pcm_module.specs.Roles.{spares_used}
+use Rattle.stream_promise.proofs.Rows.{adds, by-rows, counts-rows, cut-same, end-where, in-turn-by-rows, looks-at, marks-by-rows, rows-of, shows-at, snaps-by-rows, without-refusal}
+use Rattle.stream_promise.proofs.{Rows.without-refusal-before, Spares.used-alike}
+use Rattle.bank_timing.specs.Extending.{outcome_in}
+use Rattle.pcm_module.specs.{Roles.spares_used, State.bank_at}
 
 -- the laws of streams by which it does
 pub record StreamLaws (S : Type 0) : Type 0 where
   pub moment : MomentLaw
   pub whole : WholeStreamLaw S
   pub begun : BegunStreamLaw S
+  pub ended_turns : EndedTurnLaw
+  pub turns : TurnLaw
+  pub ended_marks : EndedMarkLaw
+  pub marks : MarkLaw
   pub ended_rises : EndedLaw
   pub so_far_rises : SoFarLaw
 
 module _ {S : Type 0} (laws : StreamLaws S) (n m e : ℕ) (job : StreamJob) (source : LentSource S) where
-  come : (input : Input) (asked : List (Asked n)) (telling : Telling n m e job.shape job.seed asked) → ComeFrom n m e job source input asked telling
-      → ComeByRows n m e job source input asked (rows-of e job.shape job.seed asked telling)
-  come Source asked telling is =
-      end-where e job.shape job.seed (stops_at_refusal job.until) asked telling
-      (IsRead (total_of job.shape) source.left source.taken source.faults source.before source.now asked)
-      (IsReadTo (total_of job.shape) source.left source.taken source.faults source.before source.now asked) is
-  come (Drawn mix) asked telling is = (
-    is.0,
-    end-where e job.shape job.seed (stops_at_refusal job.until) asked telling (reverse asked ≡ all_events (generated n job.seed (total_of job.shape) mix))
-        (BeginsWith asked (all_events (generated n job.seed (total_of job.shape) mix))) is.1,
-  )
+  module _ (shape : IsShape job.shape) where
+    come : (input : Input) (asked : List (Asked n)) (telling : Telling n m e job.shape job.seed asked) → ComeFrom n m e job source input asked telling
+        → ComeByRows n m e job source input asked (rows-of e job.shape job.seed laws.moment shape asked telling)
+    come Source asked telling is =
+        end-where e job.shape job.seed laws.moment shape (stops_at_refusal job.until) asked telling
+        (IsRead (total_of job.shape) source.left source.taken source.faults source.before source.now asked)
+        (IsReadTo (total_of job.shape) source.left source.taken source.faults source.before source.now asked) is
+    come (Drawn mix) asked telling is = (
+      is.0,
+      end-where e job.shape job.seed laws.moment shape (stops_at_refusal job.until) asked telling (reverse asked ≡ all_events (drawn_for job.shape job.seed job.banks (generated n job.seed (total_of job.shape) mix)))
+          (BeginsWith asked (all_events (drawn_for job.shape job.seed job.banks (generated n job.seed (total_of job.shape) mix)))) is.1,
+    )
 
-  goes-on : (fault : Fault) (asked : List (Asked n)) (telling : Telling n m e job.shape job.seed asked) → GoesAsFarAs n m e job source fault asked telling
-      → GoesOnTo n m e job source fault asked (rows-of e job.shape job.seed asked telling)
-  goes-on Usage asked telling is = without-refusal e job.shape job.seed (stops_at_refusal job.until) asked telling is
-  goes-on (Trace f) asked telling is = without-refusal e job.shape job.seed (stops_at_refusal job.until) asked telling is
-  goes-on Read asked telling is = without-refusal e job.shape job.seed (stops_at_refusal job.until) asked telling is
-  goes-on Write asked telling is = without-refusal-before e job.shape job.seed (stops_at_refusal job.until) asked telling is
-  goes-on TooLong asked telling is = without-refusal e job.shape job.seed (stops_at_refusal job.until) asked telling is
-  goes-on NoMemory asked telling is = without-refusal e job.shape job.seed (stops_at_refusal job.until) asked telling is
+    goes-on : (fault : Fault) (asked : List (Asked n)) (telling : Telling n m e job.shape job.seed asked) → GoesAsFarAs n m e job source fault asked telling
+        → GoesOnTo n m e job source fault asked (rows-of e job.shape job.seed laws.moment shape asked telling)
+    goes-on Usage asked telling is = without-refusal e job.shape job.seed laws.moment shape (stops_at_refusal job.until) asked telling is
+    goes-on (Trace f) asked telling is = without-refusal e job.shape job.seed laws.moment shape (stops_at_refusal job.until) asked telling is
+    goes-on Read asked telling is = without-refusal e job.shape job.seed laws.moment shape (stops_at_refusal job.until) asked telling is
+    goes-on Write asked telling is = without-refusal-before e job.shape job.seed laws.moment shape (stops_at_refusal job.until) asked telling is
+    goes-on TooLong asked telling is = without-refusal e job.shape job.seed laws.moment shape (stops_at_refusal job.until) asked telling is
+    goes-on NoMemory asked telling is = without-refusal e job.shape job.seed laws.moment shape (stops_at_refusal job.until) asked telling is
 
   module _ (array : ArrayState n m) where
     -- ---- to the end
@@ -65,10 +76,10 @@ module _ {S : Type 0} (laws : StreamLaws S) (n m e : ℕ) (job : StreamJob) (sou
         let tick : ℕ = tick_reached asked in
         record {
           asked = served.asked;
-          along = rows-of e job.shape job.seed asked telling;
+          along = rows-of e job.shape job.seed laws.moment served.lawful.shape asked telling;
           come =
-              subst (λ it. ComeByRows n m e job source job.input served.asked it) (cut-same e job.shape job.seed (is_off job.end) served.asked telling)
-              (come job.input served.asked (without_cut (is_off job.end) served.asked telling) served.come);
+              subst (λ it. ComeByRows n m e job source job.input served.asked it) (cut-same e job.shape job.seed laws.moment served.lawful.shape (is_off job.end) served.asked telling)
+              (come served.lawful.shape job.input served.asked (without_cut (is_off job.end) served.asked telling) served.come);
           rest = served.ended.rest;
           all = served.ended.all;
           order = served.ended.order;
@@ -77,6 +88,12 @@ module _ {S : Type 0} (laws : StreamLaws S) (n m e : ℕ) (job : StreamJob) (sou
           once = served.once;
           each = served.each;
           in_time = laws.whole n m e job source array told served;
+          in_turn =
+              in-turn-by-rows e job.shape job.seed laws.moment served.lawful.shape asked served.ended.history served.ended.said served.ended.along (outcome_in (table_of served.places told))
+              (laws.ended_turns n m e job.shape job.seed (stays_off (is_off job.end) served.asked) asked served.module_ served.before served.places told served.lawful.shape served.ended);
+          marks =
+              marks-by-rows e job.shape job.seed laws.moment served.lawful.shape asked (outcome_in (table_of served.places told)) asked served.ended.history served.ended.said served.ended.along
+              (laws.ended_marks n m e job.shape job.seed (stays_off (is_off job.end) served.asked) asked served.module_ served.before served.places told served.lawful.shape served.ended);
           ends = served.ended.ends;
           before = served.before;
           sensed = served.sensed;
@@ -87,7 +104,7 @@ module _ {S : Type 0} (laws : StreamLaws S) (n m e : ℕ) (job : StreamJob) (sou
           snapshots = served.snapshots;
           snaps = (
             served.snaps.0,
-            snaps-by-rows e job.shape job.seed (shown_by job.shape job.print) asked served.ended.history served.ended.said served.ended.along served.snaps.0 served.snaps.1,
+            snaps-by-rows e job.shape job.seed laws.moment served.lawful.shape (shown_by job.shape job.print) asked served.ended.history served.ended.said served.ended.along served.snaps.0 served.snaps.1,
             adds (takes_snapshots (shown_by job.shape job.print)) (IsSnapshot served.places tick told served.module_ served.before)
                 (EndsRows n m e job source served.places tick told served.ended.ends served.before) served.snaps.0 served.snapshots
                 (λ one is. record {
@@ -111,17 +128,30 @@ module _ {S : Type 0} (laws : StreamLaws S) (n m e : ℕ) (job : StreamJob) (sou
     part-by-rows asked told served =
         let kept =
         laws.moment n m e job.shape job.seed (events_in asked) served.history served.module_ array (table_of (length (events_in asked)) told) served.lawful.shape served.left in
+        let rows : List (Row n) = rows_so_far n m e job source asked told in
         record {
-          rows = by-rows e job.shape job.seed asked served.history told served.along;
+          rows = by-rows e job.shape job.seed laws.moment served.lawful.shape asked served.history told served.along;
           once = served.once;
           in_time = laws.begun n m e job source array asked told served;
+          in_turn =
+              in-turn-by-rows e job.shape job.seed laws.moment served.lawful.shape asked served.history told served.along (outcome_in (table_of (length (events_in asked)) told))
+              (laws.turns n m e job.shape job.seed asked served.history served.module_ array told served.lawful.shape served.along served.left);
+          marks =
+              marks-by-rows e job.shape job.seed laws.moment served.lawful.shape asked (outcome_in (table_of (length (events_in asked)) told)) asked served.history told served.along
+              (laws.marks n m e job.shape job.seed asked served.history served.module_ array told served.lawful.shape served.along served.left);
+          looks = looks-at e job.shape job.seed laws.moment served.lawful.shape served.module_ array asked served.history told served.along served.now;
           snapshots = served.snapshots;
-          snaps = snaps-by-rows e job.shape job.seed (shown_by job.shape job.print) asked served.history told served.along served.snapshots served.snaps;
+          snaps = snaps-by-rows e job.shape job.seed laws.moment served.lawful.shape (shown_by job.shape job.print) asked served.history told served.along served.snapshots served.snaps;
+          shows =
+              shows-at e job.shape job.seed laws.moment served.lawful.shape served.module_ array (shown_by job.shape job.print) asked served.history told served.along served.snapshots served.snaps served.now;
           rise =
               laws.so_far_rises n m e job.shape job.seed (length (events_in asked)) (shown_by job.shape job.print) asked served.history told served.along served.snapshots served.once served.snaps;
-          module_ = served.module_;
-          stands = λ line below. kept.stands line (subst (λ (raw : RawShape). line < total_of raw) (sym served.left.shape) below);
-          queued = kept.queued;
+          served = kept.reads;
+          size = subst (λ (raw : RawShape). array.lines ≡ raw.banks * array_lines_of (module_of raw)) served.left.shape served.left.replays.size;
+          ends = ends_of served.history (bank_at served.module_);
+          end =
+              subst (λ (raw : RawShape). EndsTo e raw job.seed true rows array (ends_of served.history (bank_at served.module_))) served.left.shape
+              (subst (λ (seed : ℕ). EndsTo e served.module_.shape seed true rows array (ends_of served.history (bank_at served.module_))) served.left.seeded kept.ends);
           wear = served.wear;
         }
 
@@ -140,7 +170,7 @@ module _ {S : Type 0} (laws : StreamLaws S) (n m e : ℕ) (job : StreamJob) (sou
             ending =
                 is.ending
                 ∙ ap (λ it. done_by (stops_at_refusal job.until && is_refusal_told job.shape job.seed asked it) (table_of is.served.places is.told))
-                (cut-same e job.shape job.seed (is_off job.end) asked telling);
+                (cut-same e job.shape job.seed laws.moment is.served.lawful.shape (is_off job.end) asked telling);
           }
 
       stops : (fault : Fault) → StreamsUpTo n m e job source out array fault → StopsByRows n m e job source out array fault
@@ -149,7 +179,7 @@ module _ {S : Type 0} (laws : StreamLaws S) (n m e : ℕ) (job : StreamJob) (sou
         told = is.told;
         served = part-by-rows is.asked is.told is.served;
         cause = is.cause;
-        far = goes-on fault is.asked (told_in_part n m e job source is.served) is.far;
+        far = goes-on is.served.lawful.shape fault is.asked (told_in_part n m e job source is.served) is.far;
         written = is.written;
       }
 
@@ -170,7 +200,7 @@ module _ {S : Type 0} (laws : StreamLaws S) (n m e : ℕ) (job : StreamJob) (sou
         told = is.told;
         served = part-by-rows is.asked is.told is.served;
         cause = is.cause;
-        far = goes-on Write is.asked (told_in_part n m e job source is.served) is.far;
+        far = goes-on is.served.lawful.shape Write is.asked (told_in_part n m e job source is.served) is.far;
         part = is.part;
       }
 

@@ -1,33 +1,36 @@
 -- What a stream promises, said of its rows, its lines, and what it left. What was asked stands with the newest row first.
-use Rattle.std.specs.Prelude.{◌≡◌, ◌≢◌, ◌⊎◌, ◌&&◌, true, ℕ, ◌<◌, ◌≤◌, List, ◌∷◌, [], ◌++◌, All, length, map, reverse, Option, Some, Result, Ok, Err}
+use Rattle.std.specs.Prelude.{◌≡◌, ◌≢◌, ◌⊎◌, ◌&&◌, true, IsTrue, ℕ, ◌*◌, ◌≤◌, List, ◌∷◌, [], ◌++◌, length, reverse, Option, Some, Result, Ok, Err}
 use Rattle.cell_rows.specs.Device.{ArrayState}
 use Rattle.result_rows.specs.declared.Outcome.{Outcome}
-use Rattle.row_rules.specs.Rows.{newest}
+use Rattle.row_rules.specs.{Rows.each_row, declared.Row.Row}
+use Rattle.answered_laws.specs.Answered.{is_served_so_far}
 use Rattle.command_line.specs.{declared.job.Input.Input, declared.job.Input.TheVariants.{Source, Drawn}, declared.job.LineSize.LineSize}
 use Rattle.command_line.specs.{declared.job.LineSize.TheVariants.{Bytes64, Bytes128}, declared.job.Refusal.Refusal}
-use Rattle.module_shape.specs.Limits.{total_of}
-use Rattle.right_runs.specs.{Ends.BankEnd, Runs.RunsRightTo}
+use Rattle.module_shape.specs.{Addresses.{array_lines_of, module_of}, Limits.total_of}
+use Rattle.right_runs.specs.{Ends.BankEnd, Runs.{EndsTo, RunsRightTo}}
 use Rattle.pcm_image.specs.Saved.{Saved}
 use Rattle.right_images.specs.SavesRun.{SavesRunTo}
 use Rattle.image_text.specs.Sensing.{SensesRows}
-use Rattle.pcm_module.specs.{Asking.asked_for, Roles.spares_used, State.ModuleState}
+use Rattle.bank_timing.specs.Extending.{outcome_in}
+use Rattle.pcm_module.specs.Roles.{spares_used}
 use Rattle.module_prints.specs.WearReports.{cells_at}
 use Rattle.program_calls.specs.Calls.{Gets, GetsPart, IsUntouched, Lent, SinkChange, SinkFails}
 use Rattle.run_text.specs.{Counting.counts_of, Pulses.pulses_in_all, SummaryText.summary_text}
 use Rattle.row_printer.specs.{Printing.{stream_text, table_of}, Snapshots.{AddsDue, takes_snapshots}, Telling.{became, outcomes_in, TellsOnce}, declared.snapshot.Snapshot.Snapshot}
 use Rattle.row_printer.specs.declared.told.Told.{Told}
 use Rattle.stream_words.specs.{declared.job.StreamJob.StreamJob, declared.job.StreamPrint.TheVariants.Image}
+use Rattle.drawn_parts.specs.Parts.{drawn_for}
 use Rattle.trace_gen.specs.Generated.{generated}
 use Rattle.trace_stream.specs.{Asked.events_in, Laws.all_events, declared.asked.Asked.Asked}
-use Rattle.row_stream.specs.{Asking.{BeginsWith, stays_off, tick_reached, with_cut}, Ending.rows_of, Laws.TellsEach, Looking.wear_of, Serving.ComeByBanks}
-use Rattle.row_stream.specs.Sourcing.{IsRead, IsReadTo}
+use Rattle.row_stream.specs.{Asking.{BeginsWith, stays_off, tick_reached, with_cut}, Laws.TellsEach, Looking.wear_of, Serving.ComeByBanks, Sourcing.{IsRead, IsReadTo}}
 use Rattle.stream_top.specs.{Calls.LentSource, FaultLines.{fault_line, status_of}, Leaving.{IsClosing, WritesRowsOf, senses_for}}
 use Rattle.stream_top.specs.{Promises.{Call, IsAsleep, IsUnread, OthersUntouched}, Streams.{StopsBy, done_by, is_off, rows_told, shown_by, status_done, stops_at_refusal}}
 use Rattle.stream_top.specs.{declared.done.Done.Done, declared.done.Done.TheVariants.Short, declared.fault.Fault.Fault, declared.fault.Fault.TheVariants.{Usage, Write, NoMemory}}
-use Rattle.moment_laws.specs.Moments.{IsQueuedNow, so_far, stand_now}
+use Rattle.moment_laws.specs.Moments.{rows_now}
 use Rattle.settle_laws.specs.Settles.{SettlesForGood, SettlesSoFar}
 use Rattle.snapshot_laws.specs.Rising.{NeverFall}
-use Rattle.stream_promise.specs.Rows.{CountsRows, EndWhere, RowsTold, SnapsByRows, TellsByRows, WithoutRefusal, WithoutRefusalBefore, before_cut, is_refusal_told}
+use Rattle.stream_promise.specs.Rows.{AreInTurnByRows, AreMarksTrueByRows, CountsRows, EndWhere, LooksAt, RowsTold, ShowsAt, SnapsByRows, TellsByRows, WithoutRefusal, WithoutRefusalBefore}
+use Rattle.stream_promise.specs.Rows.{before_cut, is_refusal_told}
 
 -- lines of n bytes with m check bytes and e error-correcting pointers
 module _ {S : Type 0} (n m e : ℕ) (job : StreamJob) (source : LentSource S) where
@@ -40,8 +43,8 @@ module _ {S : Type 0} (n m e : ℕ) (job : StreamJob) (source : LentSource S) wh
       (IsReadTo (total_of job.shape) source.left source.taken source.faults source.before source.now asked)
   ComeByRows (Drawn mix) asked it =
       (source.now ≡ source.before)
-      × EndWhere job.shape job.seed (stops_at_refusal job.until) asked it (reverse asked ≡ all_events (generated n job.seed (total_of job.shape) mix))
-      (BeginsWith asked (all_events (generated n job.seed (total_of job.shape) mix)))
+      × EndWhere job.shape job.seed (stops_at_refusal job.until) asked it (reverse asked ≡ all_events (drawn_for job.shape job.seed job.banks (generated n job.seed (total_of job.shape) mix)))
+      (BeginsWith asked (all_events (drawn_for job.shape job.seed job.banks (generated n job.seed (total_of job.shape) mix))))
 
   -- and where a fault ends a stream that is to stop at a refusal, none was told; but the last row may have been where the output failed
   abbrev pub GoesOnTo : Fault → (asked : List (Asked n)) → RowsTold job.shape job.seed asked → Type 0
@@ -54,8 +57,8 @@ module _ {S : Type 0} (n m e : ℕ) (job : StreamJob) (source : LentSource S) wh
     pub retired : snapshot.retired ≡ spares_used job.shape ends
     pub wear : snapshot.wear ≡ wear_of e array
 
-  -- a stream was served to its end, or up to a refusal where it is to stop there, and this was told. Row by row what became known, up to each settle all that
-  -- had come by its tick, and in the end the rest, bank by bank: of each row once. By that the rows, with the cut behind which the power stays off, are right
+  -- a stream was served to its end, or up to a refusal where it is to stop there, and this was told. Row by row what became known, behind each what was decided as it came, up to each settle all
+  -- that had come by its tick, and in the end the rest, bank by bank: of each row once. By that the rows, with the cut behind which the power stays off, are right
   -- over the array as it is now, and were powered up with the job's wear; only for an image lines were sensed since, and it says what these rows left. No count
   -- of a snapshot falls to a later one
   pub record IsServedByRows (array : ArrayState n m) (told : List (Told n)) : Type 0 where
@@ -70,6 +73,8 @@ module _ {S : Type 0} (n m e : ℕ) (job : StreamJob) (source : LentSource S) wh
     pub once : TellsOnce places (outcomes_in told)
     pub each : TellsEach places told
     pub in_time : SettlesForGood (with_cut (is_off job.end) asked) places told
+    pub in_turn : AreInTurnByRows job.shape job.seed (with_cut (is_off job.end) asked) along.told along.rows (outcome_in (table_of places told))
+    pub marks : AreMarksTrueByRows job.shape job.seed (with_cut (is_off job.end) asked) (outcome_in (table_of places told)) (with_cut (is_off job.end) asked) along.told along.rows
     pub ends : ℕ → BankEnd
     pub before : ArrayState n m
     pub sensed : ℕ
@@ -90,19 +95,27 @@ module _ {S : Type 0} (n m e : ℕ) (job : StreamJob) (source : LentSource S) wh
   ClosesRows array changes told served text =
       IsClosing job.shape job.seed served.places (counts_of (table_of served.places told)) served.ends array (cells_at e array changes) served.saved job.print text
 
-  -- only its first rows were, which asked this, and this was told; nothing is lost: the bytes that stand for each line, in a module over the array as it is, are its newest by
-  -- what was told so far, where a write without an outcome counts as queued, and is
+  -- the table of rows that asked this, by what was told so far: a write without an outcome counts as queued
+  abbrev pub rows_so_far : List (Asked n) → List (Told n) → List (Row n)
+  rows_so_far asked told = rows_now (events_in asked) (table_of (length (events_in asked)) told)
+
+  -- only its first rows were, which asked this, and this was told: each row that has an outcome by then is served, and nothing is lost. By these rows the queue of each bank is what
+  -- its queued writes give, and by one table of lines and the moves of its regions each line's newest bytes are those of the array as it is, with those of the queue laid over them
   pub record IsServedInPartByRows (array : ArrayState n m) (asked : List (Asked n)) (told : List (Told n)) : Type 0 where
     pub rows : TellsByRows job.shape job.seed asked told
     pub once : TellsOnce (length (events_in asked)) (outcomes_in told)
     pub in_time : SettlesSoFar asked told
+    pub in_turn : AreInTurnByRows job.shape job.seed asked told rows (outcome_in (table_of (length (events_in asked)) told))
+    pub marks : AreMarksTrueByRows job.shape job.seed asked (outcome_in (table_of (length (events_in asked)) told)) asked told rows
+    pub looks : LooksAt e array asked told
     pub snapshots : List Snapshot
     pub snaps : SnapsByRows job.shape job.seed (shown_by job.shape job.print) asked told rows snapshots
+    pub shows : ShowsAt e array (shown_by job.shape job.print) asked snapshots
     pub rise : NeverFall snapshots
-    pub module_ : ModuleState n m e
-    pub stands : (line : ℕ) → line < total_of job.shape
-        → stand_now module_ array line ≡ newest (map so_far (rows_of (events_in asked) (table_of (length (events_in asked)) told))) line
-    pub queued : All (IsQueuedNow module_ (table_of (length (events_in asked)) told)) (asked_for (events_in asked))
+    pub served : IsTrue (each_row is_served_so_far (rows_so_far asked told) [])
+    pub size : array.lines ≡ job.shape.banks * array_lines_of (module_of job.shape)
+    pub ends : ℕ → BankEnd
+    pub end : EndsTo e job.shape job.seed true (rows_so_far asked told) array ends
     pub wear : array.wear ≡ Some job.wear
 
   -- what was told of them

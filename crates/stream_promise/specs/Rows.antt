@@ -1,38 +1,44 @@
 -- What a stream tells row by row, said of its rows and its lines alone. What was asked stands with the newest row first.
-use Rattle.std.specs.Prelude.{◌≡◌, ◌⊎◌, ℕ, zero, suc, Bool, true, false, List, [], ◌∷◌, ◌++◌, length}
+use Rattle.std.specs.Prelude.{◌≡◌, ◌⊎◌, ℕ, zero, suc, Bool, true, false, List, [], ◌∷◌, ◌++◌, All, length}
+use Rattle.cell_rows.specs.Device.{ArrayState}
 use Rattle.result_rows.specs.declared.Outcome.{Outcome}
+use Rattle.bank_timing.specs.Extending.{outcome_in}
 use Rattle.module_shape.specs.declared.raw.RawShape.{RawShape}
+use Rattle.row_rules.specs.declared.Row.{Row}
+use Rattle.right_runs.specs.Tables.{table_in}
 use Rattle.run_text.specs.Counting.{counts_of}
 use Rattle.row_printer.specs.{Printing.table_of, Refusing.any_refused, Snapshots.AddsDue, Telling.became, declared.snapshot.Snapshot.Snapshot, declared.told.ArrayWear.ArrayWear}
 use Rattle.row_printer.specs.{declared.told.Backlog.Backlog, declared.told.Shown.Shown, declared.told.Told.Told, declared.told.Told.TheVariants.{Bank, Looked, Settled}}
 use Rattle.trace_stream.specs.{Asked.events_in, declared.asked.Asked.Asked, declared.asked.Asked.TheVariants.{Happens, Settle, Query, Look, Until}}
 use Rattle.row_stream.specs.{Asking.{behind_of, cut_if, tick_reached, with_cut}, Reaching.ReachesBy, Serving.{ComeInOrder, is_due_behind}, declared.stop.Behind.Behind}
-use Rattle.row_stream.specs.declared.stop.Behind.TheVariants.{Nothing, Going, Off}
-
-module _ {n : ℕ} where
-  -- the lines of the first so many banks at a tick, one of each, in their order
-  abbrev pub AreOfBanks : ℕ → ℕ → List (Told n) → Type 0
-  AreOfBanks tick zero lines = lines ≡ []
-  AreOfBanks tick (suc bank) lines =
-      (earlier : List (Told n)) × (backlog : Backlog) × AreOfBanks tick bank earlier × (backlog.bank ≡ bank) × (lines ≡ earlier ++ Bank tick backlog ∷ [])
-
-  -- the lines that answer a row beside outcomes, on a module of so many banks: of each that settles the last one is its tick
-  abbrev pub AreAnswers : ℕ → Asked n → List (Told n) → Type 0
-  AreAnswers banks (Happens event) lines = lines ≡ []
-  AreAnswers banks (Settle tick) lines = lines ≡ Settled tick ∷ []
-  AreAnswers banks (Query tick) lines = (first : List (Told n)) × AreOfBanks tick banks first × (lines ≡ first ++ Settled tick ∷ [])
-  AreAnswers banks (Look tick) lines = (wear : ArrayWear) × (lines ≡ Looked tick wear ∷ Settled tick ∷ [])
-  AreAnswers banks (Until until) lines = lines ≡ Settled until.reached ∷ []
+use Rattle.row_stream.specs.{Looking.wear_of, declared.stop.Behind.TheVariants.{Nothing, Going, Off}}
+use Rattle.moment_laws.specs.{Backlogs.CountsBacklog, Moments.rows_now}
+use Rattle.settle_laws.specs.{Marks.IsTrueMark, Turns.TellsInTurn}
 
 module _ {n : ℕ} (raw : RawShape) (seed : ℕ) where
+  -- the lines of the first so many banks at a tick, one of each, in their order: how many of the bank's rows wait there, by these rows as they stand
+  abbrev pub AreOfBanks : List (Row n) → ℕ → ℕ → List (Told n) → Type 0
+  AreOfBanks rows tick zero lines = lines ≡ []
+  AreOfBanks rows tick (suc bank) lines =
+      (earlier : List (Told n)) × (backlog : Backlog) × AreOfBanks rows tick bank earlier
+      × (backlog.bank ≡ bank) × CountsBacklog (table_in raw seed bank rows) backlog × (lines ≡ earlier ++ Bank tick backlog ∷ [])
+
+  -- the lines that answer a row beside outcomes, where these rows stand behind it: of each that settles the last one is its tick
+  abbrev pub AreAnswers : List (Row n) → Asked n → List (Told n) → Type 0
+  AreAnswers rows (Happens event) lines = lines ≡ []
+  AreAnswers rows (Settle tick) lines = lines ≡ Settled tick ∷ []
+  AreAnswers rows (Query tick) lines = (first : List (Told n)) × AreOfBanks rows tick raw.banks first × (lines ≡ first ++ Settled tick ∷ [])
+  AreAnswers rows (Look tick) lines = (wear : ArrayWear) × (lines ≡ Looked tick wear ∷ Settled tick ∷ [])
+  AreAnswers rows (Until until) lines = lines ≡ Settled until.reached ∷ []
+
   -- this was told of rows that asked this: of each, in their order, the outcomes that became known as it was served, and its answer; a settle until went on to
   -- the first tick behind which its row has an outcome
   abbrev pub TellsByRows : List (Asked n) → List (Told n) → Type 0
   TellsByRows [] told = told ≡ []
   TellsByRows (row ∷ before) told =
       (said : List (Told n)) × TellsByRows before said
-      × (outcomes : List (ℕ × Outcome n)) × ComeInOrder raw seed row (events_in before) outcomes
-      × (lines : List (Told n)) × AreAnswers raw.banks row lines × (told ≡ (said ++ became outcomes) ++ lines)
+      × (outcomes : List (ℕ × Outcome n)) × ComeInOrder raw seed row before outcomes
+      × (lines : List (Told n)) × AreAnswers (rows_now (events_in (row ∷ before)) (table_of (length (events_in (row ∷ before))) told)) row lines × (told ≡ (said ++ became outcomes) ++ lines)
       × ReachesBy (tick_reached before) row (table_of (length (events_in (row ∷ before))) told)
 
   -- what was told of rows that asked this
@@ -91,3 +97,32 @@ SnapsByRows raw seed shown [] told rows snapshots = snapshots ≡ []
 SnapsByRows raw seed shown (row ∷ before) told rows snapshots =
     (earlier : List Snapshot) × SnapsByRows raw seed shown before rows.0 rows.1 earlier
     × AddsDue (is_due_behind shown row (length (events_in (row ∷ before)))) (CountsRows (length (events_in (row ∷ before))) (tick_reached (row ∷ before)) told) earlier snapshots
+
+-- behind each row what was told had been told in turn, by what became of the rows in the end
+abbrev pub AreInTurnByRows : {n : ℕ} (raw : RawShape) (seed : ℕ) (asked : List (Asked n)) (told : List (Told n)) → TellsByRows raw seed asked told → (ℕ → Outcome n) → Type 0
+AreInTurnByRows raw seed [] told rows in_the_end = Unit {0}
+AreInTurnByRows raw seed (row ∷ before) told rows in_the_end =
+    AreInTurnByRows raw seed before rows.0 rows.1 in_the_end
+    × TellsInTurn raw seed row before (outcome_in (table_of (length (events_in (row ∷ before))) told)) in_the_end
+
+-- a bank that a query told as exhausted accepts no write that comes later, by what became in the end of all these rows
+abbrev pub AreMarksTrueByRows : {n : ℕ} (raw : RawShape) (seed : ℕ) (whole : List (Asked n)) (in_the_end : ℕ → Outcome n) (asked : List (Asked n)) (told : List (Told n))
+    → TellsByRows raw seed asked told → Type 0
+AreMarksTrueByRows raw seed whole in_the_end [] told rows = Unit {0}
+AreMarksTrueByRows raw seed whole in_the_end (row ∷ before) told rows =
+    AreMarksTrueByRows raw seed whole in_the_end before rows.0 rows.1 × All (IsTrueMark raw seed whole in_the_end (length (events_in (row ∷ before)))) rows.4
+
+-- where the last row was a look, its line says how worn this array is
+abbrev pub LooksAt : {n m : ℕ} → ℕ → ArrayState n m → List (Asked n) → List (Told n) → Type 0
+LooksAt e array [] told = Unit {0}
+LooksAt e array (Happens event ∷ before) told = Unit {0}
+LooksAt e array (Settle tick ∷ before) told = Unit {0}
+LooksAt e array (Query tick ∷ before) told = Unit {0}
+LooksAt {n} e array (Look tick ∷ before) told = (said : List (Told n)) × (told ≡ said ++ Looked tick (wear_of e array) ∷ Settled tick ∷ [])
+LooksAt e array (Until until ∷ before) told = Unit {0}
+
+-- where a snapshot was taken behind the last row, so does that
+abbrev pub ShowsAt : {n m : ℕ} → ℕ → ArrayState n m → Shown → List (Asked n) → List Snapshot → Type 0
+ShowsAt e array shown [] snapshots = Unit {0}
+ShowsAt e array shown (row ∷ before) snapshots =
+    (earlier : List Snapshot) × AddsDue (is_due_behind shown row (length (events_in (row ∷ before)))) (λ one. one.wear ≡ wear_of e array) earlier snapshots

@@ -10,7 +10,10 @@ ghost use Rattle.stream_promise.specs.Promise.{LastSnapshotLaw, PromisesByRows};
 
 use moment_laws::no_moment_loses_bytes;
 use pcm_io::{Sink, Source};
-use settle_laws::streams_settle_for_good;
+use settle_laws::{
+    exhausted_banks_accept_nothing, outcomes_are_told_in_turn, outcomes_are_told_in_turn_so_far,
+    streams_settle_for_good,
+};
 use snapshot_laws::{snapshots_never_fall, snapshots_never_fall_so_far};
 use std::alloc::Global;
 use stream_top::stream_run;
@@ -43,6 +46,9 @@ pub fn run_stream<
 {
     no_moment_loses_bytes();
     streams_settle_for_good::<S>();
+    outcomes_are_told_in_turn();
+    outcomes_are_told_in_turn_so_far();
+    exhausted_banks_accept_nothing();
     snapshots_never_fall();
     snapshots_never_fall_so_far();
     stream_run(alloc, words, array, wide, source, out, err)

@@ -116,6 +116,7 @@ module _ {S : Type 0} (n m e : ℕ) (job : StreamJob) (source : LentSource S) (m
     along = serving.along;
     module_ = module_;
     left = subst (λ (k : ℕ). HasServed job.shape job.seed (events_in asked) serving.history module_ before (table_of k told)) serving.counted serving.served;
+    now = serving.now;
     wear = wear;
     snapshots = snaps;
     snaps = subst (λ (p : Shown). SnapsAlong e job.shape job.seed p asked serving.history told serving.along snaps) alike serving.snaps;

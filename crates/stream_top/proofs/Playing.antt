@@ -24,6 +24,7 @@ serves-none raw seed module_ array shown shape seeded tick below going begins = 
   history = λ bank. [];
   along = (refl, refl);
   snaps = refl;
+  now = tt;
   served = record { shape = shape; seeded = seeded; going = going; bound = omega (arith, below); size = refl; replays = begins [] };
   counted = refl;
   tick = tick;

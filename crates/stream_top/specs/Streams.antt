@@ -18,11 +18,12 @@ use Rattle.stream_words.specs.{Jobs.IsStreamJob, declared.job.End.End, declared.
 use Rattle.stream_words.specs.{declared.job.StreamPrint.StreamPrint, declared.job.StreamPrint.TheVariants.{Rows, Summary, Wear, Lines, Map, Energy, Image, Snapshots}}
 use Rattle.stream_words.specs.{declared.job.Tell.Tell, declared.job.Tell.TheVariants.{Nothing, Shape}, declared.job.Until.Until}
 use Rattle.stream_words.specs.declared.job.Until.TheVariants as up_to
+use Rattle.drawn_parts.specs.Parts.{drawn_for}
 use Rattle.trace_gen.specs.Generated.{generated}
 use Rattle.trace_stream.specs.{Asked.events_in, Laws.all_events, declared.asked.Asked.Asked}
 use Rattle.trace_stream.specs.declared.fault.StreamFault.TheVariants as from
 use Rattle.row_stream.specs.{Asking.{BeginsWith, stays_off, with_cut}, Ending.{EndsShowing, HasEnded, SnapsAll, rows_of, told_along, without_cut}, Laws.TellsEach}
-use Rattle.row_stream.specs.{Refusing.{EndsBehind, MayGoOn, WentOn, tells_refusal}, Serving.{HasServed, SnapsAlong, Telling, TellsAlong}, Sourcing.{HasStopped, IsRead, IsReadTo}}
+use Rattle.row_stream.specs.{Refusing.{EndsBehind, MayGoOn, WentOn, tells_refusal}, Serving.{HasServed, IsToldOf, SnapsAlong, Telling, TellsAlong}, Sourcing.{HasStopped, IsRead, IsReadTo}}
 use Rattle.row_stream.specs.{declared.stop.Stop.Stop, declared.stop.Stop.TheVariants.{Input as No, Late, Endless, Output}}
 use Rattle.stream_top.specs.{Calls.LentSource, Leaving.{IsClosing, Leaves, WritesRowsOf, senses_for}, declared.done.Done.Done, declared.done.Done.TheVariants.{Whole, Short}}
 use Rattle.stream_top.specs.{declared.fault.Fault.Fault, declared.fault.Fault.TheVariants.{Usage, Trace, Read, Write, TooLong, NoMemory}}
@@ -89,8 +90,8 @@ module _ {S : Type 0} (n m e : ℕ) (job : StreamJob) (source : LentSource S) wh
       (IsReadTo (total_of job.shape) source.left source.taken source.faults source.before source.now asked)
   ComeFrom (Drawn mix) asked telling =
       (source.now ≡ source.before)
-      × EndsBehind (stops_at_refusal job.until) asked telling (reverse asked ≡ all_events (generated n job.seed (total_of job.shape) mix))
-      (BeginsWith asked (all_events (generated n job.seed (total_of job.shape) mix)))
+      × EndsBehind (stops_at_refusal job.until) asked telling (reverse asked ≡ all_events (drawn_for job.shape job.seed job.banks (generated n job.seed (total_of job.shape) mix)))
+      (BeginsWith asked (all_events (drawn_for job.shape job.seed job.banks (generated n job.seed (total_of job.shape) mix))))
 
   -- whether it stopped there
   abbrev pub has_stopped : (asked : List (Asked n)) → Telling n m e job.shape job.seed asked → Bool
@@ -122,7 +123,7 @@ module _ {S : Type 0} (n m e : ℕ) (job : StreamJob) (source : LentSource S) wh
   abbrev pub StopsBy : Input → Fault → List (Asked n) → Type 0
   StopsBy Source fault asked = HasCause fault asked
   StopsBy (Drawn mix) fault asked =
-      (fault ≡ Write) × (source.now ≡ source.before) × BeginsWith asked (all_events (generated n job.seed (total_of job.shape) mix))
+      (fault ≡ Write) × (source.now ≡ source.before) × BeginsWith asked (all_events (drawn_for job.shape job.seed job.banks (generated n job.seed (total_of job.shape) mix)))
 
   -- what was told as the rows were served, without the cut behind which the power stays off
   abbrev pub told_of_rows : (asked : List (Asked n)) {module_ : ModuleState n m e} {array : ArrayState n m} {places : ℕ} {told : List (Told n)}
@@ -167,13 +168,15 @@ module _ {S : Type 0} (n m e : ℕ) (job : StreamJob) (source : LentSource S) wh
       IsClosing job.shape job.seed served.places (counts_of (table_of served.places told)) served.ended.ends array (cells_at e array changes) served.saved job.print text
 
   -- only its first rows were, which asked this, and this was told: row by row what became known, once of a row; and
-  -- these snapshots were taken, each of what its row left. The array, which was powered up with the job's wear, is as the last of these rows left it
+  -- these snapshots were taken, each of what its row left. The array, which was powered up with the job's wear, is as the last of these rows left it, and
+  -- that row's lines, and a snapshot behind it, are of this very array
   pub record IsServedInPart (array : ArrayState n m) (asked : List (Asked n)) (told : List (Told n)) : Type 0 where
     pub lawful : IsStreamJob job
     pub history : ℕ → List (TimedEvent n m)
     pub along : TellsAlong e job.shape job.seed asked history told
     pub module_ : ModuleState n m e
     pub left : HasServed job.shape job.seed (events_in asked) history module_ array (table_of (length (events_in asked)) told)
+    pub now : IsToldOf e job.shape job.seed module_ array asked history told along
     pub wear : array.wear ≡ Some job.wear
     pub snapshots : List Snapshot
     pub snaps : SnapsAlong e job.shape job.seed (shown_by job.shape job.print) asked history told along snapshots

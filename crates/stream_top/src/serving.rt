@@ -181,7 +181,7 @@ fn serve_rows<
             Ok(behind) => Ok(behind),
             Err(stop) => Err(fault_of(stop)),
         },
-        Input::Drawn(mix) => match serve_drawn(pcm, array, job.seed, mix, stops, out) {
+        Input::Drawn(mix) => match serve_drawn(pcm, array, job.seed, mix, job.banks, stops, out) {
             Ok(behind) => Ok(behind),
             Err(_) => Err(Fault::Write),
         },

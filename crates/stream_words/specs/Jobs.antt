@@ -6,7 +6,7 @@ use Rattle.trace_gen.specs.Generated.{IsLongMix}
 use Rattle.module_shape.specs.Limits.{IsShape}
 use Rattle.command_line.specs.{Jobs.{answer_of, faults_at}, Options.{with_some, line_of, large_shape_of, seed_of, wear_of, input_of}, declared.job.Input.Input}
 use Rattle.command_line.specs.{declared.job.Input.TheVariants.{Source, Drawn}, declared.job.Refusal.Refusal}
-use Rattle.stream_words.specs.{Options.{IsPrint, end_of, long_mix_of, print_of, until_of}, Table.stream_app, declared.job.StreamJob.StreamJob}
+use Rattle.stream_words.specs.{Options.{IsPrint, end_of, banks_of, long_mix_of, print_of, until_of}, Table.stream_app, declared.job.StreamJob.StreamJob}
 
 -- the job of these options; those of a generated trace are looked at whatever the input is
 unfoldable pub stream_of : List Row → Option StreamJob
@@ -20,7 +20,8 @@ stream_of rows =
     with_some (input_of mix (first_of (codes "input") rows)) (λ input.
     with_some (end_of (first_of (codes "end") rows)) (λ end.
     with_some (until_of (first_of (codes "until") rows)) (λ until.
-    Some (record { line = line; shape = shape; seed = seed; wear = wear; print = print; input = input; end = end; until = until }))))))))))
+    with_some (banks_of input end rows) (λ banks.
+    Some (record { line = line; shape = shape; seed = seed; wear = wear; print = print; input = input; end = end; until = until; banks = banks })))))))))))
 
 -- the options that `clap` finds in words
 unfoldable pub options_at : App → List Text → List Row

@@ -4,6 +4,7 @@ use Rattle.clap.specs.Words.{Row, Text, first_of}
 use Rattle.trace_reader.specs.{Number.number_of, Rows.latest_tick}
 use Rattle.trace_gen.specs.{Generated.stream_lines, declared.mix.Mix.Mix}
 use Rattle.command_line.specs.{Options.{mix_within, one_of_two, with_some}, declared.job.Input.Input, declared.job.Input.TheVariants.{Source, Drawn}}
+use Rattle.drawn_parts.specs.declared.Banks.{Banks}
 use Rattle.stream_words.specs.{declared.job.End.End, declared.job.End.TheVariants.{Drain, Off}, declared.job.Skip.Skip, declared.job.StreamPrint.StreamPrint}
 use Rattle.stream_words.specs.{declared.job.StreamPrint.TheVariants.{Rows, Summary, Wear, Lines, Map, Energy, Image, Snapshots}, declared.job.Tell.Tell, declared.job.Until.Until}
 use Rattle.stream_words.specs.declared.job.Skip.TheVariants as skip
@@ -128,3 +129,26 @@ in_time mix = if nat_le (mix.rows * mix.step) latest_tick then Some mix else Non
 -- what the rows are that a stream draws
 abbrev pub long_mix_of : List Row → Option Mix
 long_mix_of rows = with_some (mix_within 4000000000 stream_lines rows) in_time
+
+-- a bank's number, or this one where none is given
+abbrev pub bank_of : Option Text → ℕ → Option ℕ
+bank_of None otherwise = Some otherwise
+bank_of (Some text) otherwise = number_of 20 63 text
+
+-- the banks from a first one to a last one, which are all where none is given
+abbrev pub some_banks_of : List Row → Option Banks
+some_banks_of rows =
+    with_some (bank_of (first_of (codes "first-bank") rows) 0) (λ first.
+    with_some (bank_of (first_of (codes "last-bank") rows) 63) (λ last.
+    Some (record { first = first; last = last })))
+
+-- all banks, where neither is given
+abbrev pub all_banks_of : List Row → Option Banks
+all_banks_of rows =
+    without (first_of (codes "first-bank") rows) (without (first_of (codes "last-bank") rows) (Some (record { first = 0; last = 63 })))
+
+-- the banks whose rows are served: some are asked for only where rows are drawn, and the banks drain
+abbrev pub banks_of : Input → End → List Row → Option Banks
+banks_of Source end rows = all_banks_of rows
+banks_of (Drawn mix) Drain rows = some_banks_of rows
+banks_of (Drawn mix) Off rows = all_banks_of rows

@@ -4,6 +4,7 @@ ghost use Rattle.stream_words.specs.Options.{is_read, tells_energy};
 
 use cell_rows::Wear;
 use command_line::{Input, LineSize};
+use drawn_parts::Banks;
 use module_shape::Shape;
 
 /// A run of a stream: each outcome is written as soon as it is known.
@@ -25,6 +26,8 @@ pub struct StreamJob {
     pub end: End,
     /// Up to where the rows are served.
     pub until: Until,
+    /// The banks whose rows are served, where they are drawn.
+    pub banks: Banks,
 }
 
 /// What a stream writes.

@@ -3,11 +3,13 @@ ghost use Rattle.std.specs.Prelude.{◌≡◌, ◌≤◌, IfSome, codes, option_
 ghost use Rattle.clap.specs.Words.{first_of, found_of, rows_of};
 ghost use Rattle.command_line.specs.Options.{with_some};
 ghost use Rattle.trace_gen.specs.Generated.{IsLongMix};
-ghost use Rattle.stream_words.specs.Options.{IsPrint, closing_of, end_of, every_of, long_mix_of, plain_of, print_of, report_of, skip_of, skipping_of, snapshots_of, tell_of, told_rows, until_of, whole_of, without};
+ghost use Rattle.stream_words.specs.Options.{IsPrint, all_banks_of, bank_of, banks_of, closing_of, end_of, every_of, long_mix_of, plain_of, print_of, report_of, skip_of, skipping_of, snapshots_of, some_banks_of, tell_of, told_rows, until_of, whole_of, without};
 
 use crate::job::{End, Skip, StreamPrint, Tell, Until};
 use clap::ArgMatches;
+use command_line::Input;
 use command_line::options::{mix_within, value};
+use drawn_parts::Banks;
 use trace_gen::Mix;
 use trace_reader::{LATEST_TICK, number};
 
@@ -197,6 +199,55 @@ pub(crate) fn until(matches: &ArgMatches<'_>) -> Option<Until>
         Some("end") => Some(Until::End),
         Some("refused") => Some(Until::Refused),
         Some(_) => None,
+    }
+}
+
+// A bank's number that an option gives.
+#[tactic(auto, using(trace_reader::proofs::Numbers::number_within))]
+fn bank(text: Option<&str>, otherwise: u32) -> Option<u32>
+    ensures { result ≡ bank_of (option_map (λ s. s.now) text.entry) otherwise }
+{
+    match text {
+        None => Some(otherwise),
+        Some(text) => {
+            let bank = number(text.as_bytes(), 20, 63)?;
+            Some(bank as u32)
+        }
+    }
+}
+
+// The banks from a first one to a last one, which are all where none is given.
+fn some_banks(matches: &ArgMatches<'_>) -> Option<Banks>
+    ensures { result ≡ some_banks_of (rows_of (found_of matches.now)) }
+{
+    let first = bank(value(matches, "first-bank"), 0)?;
+    let last = bank(value(matches, "last-bank"), 63)?;
+    Some(Banks { first, last })
+}
+
+// All banks, where neither is given.
+fn all_banks(matches: &ArgMatches<'_>) -> Option<Banks>
+    ensures { result ≡ all_banks_of (rows_of (found_of matches.now)) }
+{
+    match value(matches, "first-bank") {
+        None => match value(matches, "last-bank") {
+            None => Some(Banks { first: 0, last: 63 }),
+            Some(_) => None,
+        },
+        Some(_) => None,
+    }
+}
+
+// The banks whose rows are served: some are asked for only where rows are drawn, and the banks drain.
+pub(crate) fn banks(matches: &ArgMatches<'_>, input: &Input, end: End) -> Option<Banks>
+    ensures { result ≡ banks_of input.now end (rows_of (found_of matches.now)) }
+{
+    match input {
+        Input::Source => all_banks(matches),
+        Input::Drawn(_) => match end {
+            End::Drain => some_banks(matches),
+            End::Off => all_banks(matches),
+        },
     }
 }
 

@@ -5,7 +5,7 @@ ghost use Rattle.command_line.specs.Jobs.{or_usage};
 ghost use Rattle.stream_words.specs.Jobs.{IsStreamJob, stream_job_of, stream_of};
 
 use crate::job::StreamJob;
-use crate::options::{end, long_mix, print, until};
+use crate::options::{banks, end, long_mix, print, until};
 use crate::table::stream_command;
 use clap::ArgMatches;
 use command_line::Refusal;
@@ -27,6 +27,7 @@ fn stream(matches: &ArgMatches<'_>) -> Option<StreamJob>
     let input = input(matches, mix)?;
     let end = end(matches)?;
     let until = until(matches)?;
+    let banks = banks(matches, &input, end)?;
     Some(StreamJob {
         line,
         shape,
@@ -36,6 +37,7 @@ fn stream(matches: &ArgMatches<'_>) -> Option<StreamJob>
         input,
         end,
         until,
+        banks,
     })
 }
 

@@ -16,6 +16,11 @@ pub(crate) fn stream_command<'a>(alloc: Global) -> Result<Command<'a>, AllocErro
     let ends = add_option(alloc, add_option(alloc, run, "end")?, "every")?;
     let bounded = add_option(alloc, ends, "until")?;
     let telling = add_option(alloc, bounded, "tell")?;
-    let command = add_option(alloc, telling, "skip")?;
+    let skipping = add_option(alloc, telling, "skip")?;
+    let command = add_option(
+        alloc,
+        add_option(alloc, skipping, "first-bank")?,
+        "last-bank",
+    )?;
     Ok(command.disable_help_flag(true).no_binary_name(true))
 }

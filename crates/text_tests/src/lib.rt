@@ -1,4 +1,4 @@
-//! What goes in and out, each by itself: sources and sinks, words, traces, results, reports and saved modules. What each must answer
+//! What goes in and out, each by itself: sources and sinks, words, traces, results and reports. What each must answer
 //! was worked out by hand from the formats.
 #![tactic(auto)]
 
@@ -8,8 +8,6 @@ mod digits;
 mod expected;
 #[cfg(test)]
 mod generated;
-#[cfg(test)]
-mod images;
 #[cfg(test)]
 mod maps;
 #[cfg(test)]

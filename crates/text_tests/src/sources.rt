@@ -19,7 +19,7 @@ fn fault(alloc: Global, limit: usize, fails: u32) -> Option<ReadAllFault> {
 
 #[test]
 fn reads_up_to_the_limit_and_no_further(rt: HostRuntime) -> Result<(), Fail> {
-    let whole = read(rt.alloc(), 3, 9)?;
+    let whole = read(rt.alloc(), 3, 9).ok().ok_or("no bytes")?;
     assert_text(&rt, whole.as_slice(), b"pcm");
     let faults = [
         fault(rt.alloc(), 2, 9),
@@ -107,7 +107,7 @@ fn a_text_holds_what_was_pushed(rt: HostRuntime) -> Result<(), Fail> {
 #[test]
 fn a_reader_of_std_is_adapted(rt: HostRuntime) -> Result<(), Fail> {
     let mut source = StdSource::new(b"0,R,0,".as_slice());
-    let read = read_all(rt.alloc(), &mut source, 100)?;
+    let read = read_all(rt.alloc(), &mut source, 100).ok().ok_or("no bytes")?;
     assert_text(&rt, read.as_slice(), b"0,R,0,");
     Ok(())
 }

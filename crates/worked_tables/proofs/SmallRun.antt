@@ -10,11 +10,11 @@ use Rattle.ecp_line.specs.{ArrayLines.{is_worn_at, decoded}, Reading.decode, Unt
 use Rattle.ecp_line.specs.Layout as layout
 use Rattle.row_rules.specs.{Rows.each_row, Serving.is_served, Table.KeepsRows, Wearing.worn_row, declared.Row.Row}
 use Rattle.worked_tables.specs.Runs.{small, reading, misplaced, first_bank, second_bank, senses, holding, ended, touched, forgotten, NeverRight, unmoved, hammered, strained}
-use Rattle.worked_tables.specs.{Runs.{cut_short, emptied, queueing, first_byte, both_bytes}, TableExamples.whole}
+use Rattle.worked_tables.specs.{Runs.{cut_short, emptied, queueing, first_byte, both_bytes, stored_so_far, unpulsed}, TableExamples.whole}
 use Rattle.module_shape.specs.Addresses.{module_of, bank_shape}
 use Rattle.right_runs.specs.{Banks.{bank_of_line, line_in_bank, line_named, rules_in}, Ends.{is_moved, BankEnd, EndsWith, IsRemapped, QueueEndsTo, is_kept_line, place_by_table}}
 use Rattle.right_runs.specs.{KeepsLines.KeepsLines, KeepsLog.KeepsLog, KeepsPlaces.KeepsPlaces, Logs.is_line_fair}
-use Rattle.right_runs.specs.{Queued.{QueueEntry, QueuedWrite, entries_by, first_again, queued_writes}, Runs.{RunsRight, StopsRight}, Tables.{finds_room_in, table_in}}
+use Rattle.right_runs.specs.{Queued.{QueueEntry, QueuedWrite, entries_by, first_again, queued_writes}, Runs.{EndsTo, RunsRight, StopsRight}, Tables.{finds_room_in, table_in}}
 
 pub where_8_is : (bank_of_line small 0 8 ≡ 1) × (line_in_bank small 0 8 ≡ 5) × (line_named small 0 1 5 ≡ 8)
 unfolding next_u64 stream_of stream_after word_at
@@ -278,3 +278,19 @@ lost_is_wrong right =
     first_given : List QueueEntry → List Bool
     first_given [] = []
     first_given (entry ∷ entries) = entry.gives.given
+
+-- ---- while more may come
+
+-- an array that was never pulsed has what was stored in no line
+pub unpulsed_is_wrong : (ends : ℕ → BankEnd) → EndsTo 1 small 0 true stored_so_far unpulsed ends → ⊥
+unfolding next_u64 stream_of stream_after word_at decode layout.number layout.source_below layout.active layout.width layout.leading layout.some_below cells.cell cells.members lib.Count.count_trailing_zeros
+unpulsed_is_wrong ends right = by (right 1 (lit< tt)).queue.begun (ends 1).queue (right 1 (lit< tt)).queue.entries ((right 1 (lit< tt)).kept 5 (lit< tt))
+  where
+    by : (begun : Bool) (queue : List QueueEntry) → queue ≡ entries_by begun (queued_writes (table_in small 0 1 stored_so_far))
+        → is_kept_line (table_in small 0 1 stored_so_far) queue 5 (whole 0) ≡ true → ⊥
+    by true queue is kept =
+        let no : ◌≡◌ {A = Bool} false true = subst (λ (q : List QueueEntry). is_kept_line (table_in small 0 1 stored_so_far) q 5 (whole 0) ≡ true) is kept in
+        cc no
+    by false queue is kept =
+        let no : ◌≡◌ {A = Bool} false true = subst (λ (q : List QueueEntry). is_kept_line (table_in small 0 1 stored_so_far) q 5 (whole 0) ≡ true) is kept in
+        cc no

@@ -101,3 +101,11 @@ first_byte = record { line = 5; gives = record { bytes = 0xee ∷ 0 ∷ []; give
 
 abbrev pub both_bytes : List QueueEntry
 both_bytes = record { line = 5; gives = record { bytes = 0xee ∷ 0x11 ∷ []; given = both } } ∷ []
+
+-- line 8 is stored, and more may come
+abbrev pub stored_so_far : List (Row 2)
+stored_so_far = W 0 8 0x11 (out.Stored 15 17) ∷ []
+
+-- an array of which no line was ever pulsed
+abbrev pub unpulsed : ArrayState 2 1
+unpulsed = record { line = λ line. holding 0 0; lines = 22; tears = 0; log = None; wear = None; bounds = never_missing; energy = λ line. None }

@@ -1,14 +1,14 @@
 //! A worked run of a small module, and altered ones that are refused. Each clause is computed from the definitions; there is
 //! nothing to run.
 
-ghost use Rattle.std.specs.Prelude.{◌≡◌, ◌∷◌, [], ℕ, List};
+ghost use Rattle.std.specs.Prelude.{◌≡◌, ◌∷◌, [], ℕ, List, true};
 ghost use Rattle.right_runs.specs.Ends.{BankEnd};
-ghost use Rattle.right_runs.specs.Runs.{RunsRight, StopsRight};
+ghost use Rattle.right_runs.specs.Runs.{EndsTo, RunsRight, StopsRight};
 ghost use Rattle.right_runs.specs.Queued.{QueueEntry};
 ghost use Rattle.row_rules.specs.Rows.{newest};
 ghost use Rattle.right_runs.specs.Banks.{bank_of_line, line_in_bank, line_named};
 ghost use Rattle.right_runs.specs.Tables.{table_in};
-ghost use Rattle.worked_tables.specs.Runs.{small, reading, misplaced, first_bank, second_bank, ended, touched, forgotten, hammered, strained, unmoved, cut_short, emptied, queueing, first_byte, both_bytes, NeverRight};
+ghost use Rattle.worked_tables.specs.Runs.{small, reading, misplaced, first_bank, second_bank, ended, touched, forgotten, hammered, strained, unmoved, cut_short, emptied, queueing, first_byte, both_bytes, stored_so_far, unpulsed, NeverRight};
 
 /// Which bank has line 8, under which number, and which rows each bank gets.
 pub fn worked_lines_are_mixed()
@@ -37,4 +37,11 @@ pub fn lost_bytes_are_refused()
     ensures lost { StopsRight 1 small 0 cut_short emptied (queueing first_byte) → ⊥ }
     ensures queued { (queue : List QueueEntry)
         → StopsRight 1 small 0 cut_short emptied (queueing queue) → queue ≡ both_bytes }
+{}
+
+/// Nor are they lost while more rows may come: an array of which no line was ever pulsed has the bytes of no stored line, wherever its bank says that
+/// the line stands.
+pub fn lost_bytes_are_refused_meanwhile()
+    ensures newest { newest stored_so_far 8 ≡ 0x11 ∷ 0x11 ∷ [] }
+    ensures lost { (ends : ℕ → BankEnd) → EndsTo 1 small 0 true stored_so_far unpulsed ends → ⊥ }
 {}

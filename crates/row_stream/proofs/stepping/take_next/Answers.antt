@@ -34,6 +34,9 @@ returns-in-Some-clause-steps g c =
       c.take_event.ensures.takes,
     )
 
+pub returns-in-Some-clause-waits : goal.returns-in-Some-clause-waits
+returns-in-Some-clause-waits g c = inl refl
+
 -- none has come, and nothing was read
 pub take_given-requires : goal.take_given-requires
 take_given-requires g c =
@@ -45,3 +48,6 @@ pub returns-clause-steps : goal.returns-clause-steps
 returns-clause-steps g c =
     subst (λ (s : Standing). Steps g.S.Source.left g.S.Source.taken g.S.Source.faults c.args.stops c.args.pcm.now c.take_given.new.pcm (g.A.CellArray.state c.args.array.now) (g.A.CellArray.state c.take_given.new.array)
     c.args.source.now c.take_given.new.source s c.take_given.new.stream c.args.out.now c.take_given.new.out c.args.behind c.take_given.result) c.in_default.ensures.none c.take_given.ensures.steps
+
+pub returns-clause-waits : goal.returns-clause-waits
+returns-clause-waits g c = c.take_given.ensures.waits

@@ -13,7 +13,8 @@ abbrev pub invariant-waits : goal.invariant-waits
 invariant-waits g l = record {
   came : (raw : RawShape) (seed : ℕ) (asked : List (Asked g.row.B))
       (had : IsServing {n = g.row.B} {m = g.row.M} {e = g.row.E} raw seed asked l.fn.pcm (g.A.CellArray.state l.fn.array) l.fn.out.rows l.fn.out.told l.fn.out.prints l.fn.out.snapshots)
-      → HasGone raw seed asked l.fn.pcm (g.A.CellArray.state l.fn.array) l.fn.out.rows l.fn.out.told l.fn.out.prints l.fn.out.snapshots had l.pcm (g.A.CellArray.state l.array) l.out.rows l.out.told;
+      → HasGone raw seed asked l.fn.pcm (g.A.CellArray.state l.fn.array) l.fn.out.rows l.fn.out.told l.fn.out.prints l.fn.out.snapshots had l.until.row l.until.limit
+      l.pcm (g.A.CellArray.state l.array) l.out.rows l.out.told;
   settled : (bank : ℕ) → bank < l.pcm.shape.banks → IsSomeAnd (slice_get l.pcm.banks bank) (IsAtTick l.pcm.tick);
   from : l.fn.pcm.tick ≤ l.pcm.tick;
   within : l.pcm.tick ≤ l.until.limit;

@@ -75,6 +75,19 @@ returns-in_err-until-clause-exact c = c.from_residual-in_err-until.ensures ∙ s
     (some_step _ _ _ _ (sym c.in_ok-end.ensures)
     (none_step _ _ (sym c.in_err-until.ensures))))))))))
 
+pub returns-in_err-banks-clause-exact : goal.returns-in_err-banks-clause-exact
+unfolding stream_of
+returns-in_err-banks-clause-exact c = c.from_residual-in_err-banks.ensures ∙ sym (some_step _ _ _ _ (sym c.in_ok-line.ensures)
+    (some_step _ _ _ _ (sym c.in_ok-shape.ensures.exact)
+    (some_step _ _ _ _ (sym c.in_ok-seed.ensures)
+    (some_step _ _ _ _ (sym c.in_ok-wear.ensures.exact)
+    (some_step _ _ _ _ (sym c.in_ok-print.ensures.exact)
+    (some_step _ _ _ _ (sym c.in_ok-mix.ensures.exact)
+    (some_step _ _ _ _ (sym c.in_ok-input.ensures.exact)
+    (some_step _ _ _ _ (sym c.in_ok-end.ensures)
+    (some_step _ _ _ _ (sym c.in_ok-until.ensures)
+    (none_step _ _ (sym c.in_err-banks.ensures)))))))))))
+
 pub returns-clause-exact : goal.returns-clause-exact
 unfolding stream_of
 returns-clause-exact c = sym (some_step _ _ _ _ (sym c.in_ok-line.ensures)
@@ -86,4 +99,5 @@ returns-clause-exact c = sym (some_step _ _ _ _ (sym c.in_ok-line.ensures)
     (some_step _ _ _ _ (sym c.in_ok-input.ensures.exact)
     (some_step _ _ _ _ (sym c.in_ok-end.ensures)
     (some_step _ _ _ _ (sym c.in_ok-until.ensures)
-    refl)))))))))
+    (some_step _ _ _ _ (sym c.in_ok-banks.ensures)
+    refl))))))))))

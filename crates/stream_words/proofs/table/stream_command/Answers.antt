@@ -10,8 +10,10 @@ unfolding stream_app
 returns c =
     ap app_of_fields (c.no_binary_name.ensures ∙ ap (λ (f : Command-F Command). record f { no_binary_name = true }) c.disable_help_flag.ensures)
     ∙ ap (λ (a : App). record a { top = record a.top { disable_help_flag = true; no_binary_name = true } })
-    (c.in_ok-command.ensures.app ∙ ap (λ (a : App). with_rule a (option_rule (codes "skip")))
+    (c.in_ok-command.ensures.app ∙ ap (λ (a : App). with_rule a (option_rule (codes "last-bank")))
+    (c.in_ok-add_option-2.ensures.app ∙ ap (λ (a : App). with_rule a (option_rule (codes "first-bank")))
+    (c.in_ok-skipping.ensures.app ∙ ap (λ (a : App). with_rule a (option_rule (codes "skip")))
     (c.in_ok-telling.ensures.app ∙ ap (λ (a : App). with_rule a (option_rule (codes "tell")))
     (c.in_ok-bounded.ensures.app ∙ ap (λ (a : App). with_rule a (option_rule (codes "until")))
     (c.in_ok-ends.ensures.app ∙ ap (λ (a : App). with_rule a (option_rule (codes "every")))
-    (c.in_ok-add_option.ensures.app ∙ ap (λ (a : App). with_rule a (option_rule (codes "end"))) c.in_ok-run.ensures.app)))))
+    (c.in_ok-add_option.ensures.app ∙ ap (λ (a : App). with_rule a (option_rule (codes "end"))) c.in_ok-run.ensures.app)))))))

@@ -1,0 +1,14 @@
+pub mod Standing
+pub mod Making
+pub mod Digits
+pub mod Places
+pub mod Fitting
+pub mod Totals
+pub mod Mapping
+pub mod Writing
+pub mod Recording
+pub mod Filling
+pub mod Reading
+pub mod Runs
+pub mod Stopping
+pub mod Beginning

@@ -1,5 +1,0 @@
-use Rattle.bank_timing.proofs.Sizes.{bank_fits}
-use Rattle.bank_tests.proofs.bank_timing++clocked++Timed+Destruct.drop.Goals as goal
-
-pub drop-requires : goal.drop-requires
-drop-requires g c = bank_fits c.drop.invariant.layout

@@ -1,0 +1,3 @@
+pub mod Pieces
+mod Agreeing
+mod Beginning
