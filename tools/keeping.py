@@ -113,6 +113,14 @@ def keep(crate, stamp, made):
             (pathlib.Path(room) / "entry").rename(to)
 
 
+def link(one, other):
+    """A second name of a file, or a copy where the disk has no links."""
+    try:
+        os.link(one, other)
+    except OSError:
+        shutil.copy2(one, other)
+
+
 def note_line(crate, stamp, line):
     """Keeps the line with which a crate's proof ended."""
     file = line_file(crate, stamp)

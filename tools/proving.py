@@ -50,8 +50,8 @@ def kit_command():
             if it.name != "bin":
                 (new / "kit" / it.name).symlink_to(it)
         for it in (kit / "bin").iterdir():
-            # (its scripts look for the kit from where they stand)
-            shutil.copy2(it, new / "kit" / "bin") if it.read_bytes()[:2] == b"#!" or it.suffix == ".py" else (new / "kit" / "bin" / it.name).symlink_to(it)
+            # (its scripts look for the kit from where they stand; its programs are large)
+            shutil.copy2(it, new / "kit" / "bin") if it.stat().st_size < 1_000_000 else (new / "kit" / "bin" / it.name).symlink_to(it)
         with contextlib.suppress(OSError):
             new.rename(named.parent)
     return str(named / "bin" / "rt")
