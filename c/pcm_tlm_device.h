@@ -43,7 +43,7 @@ struct counts {
     uint64_t kinds[PCM_SETTLED] = {}; /* outcomes of rows, by enum pcm_kind; each line of a transaction is a row */
     uint64_t ended = 0;               /* transactions that a cut ended */
     uint64_t settles = 0;             /* how often the program was waited for */
-    uint64_t late = 0;                /* of exact timing: requests, cuts and answers behind their own tick: none */
+    uint64_t late = 0;                /* requests, cuts and answers of exact timing, and planned cuts, behind their own tick: none */
 };
 
 /* What a transaction has in one line. */
@@ -59,7 +59,7 @@ struct request {
     tlm::tlm_generic_payload *trans = nullptr;
     std::vector<part> parts;
     size_t sent = 0, answered = 0;
-    uint64_t end = 0;    /* the tick of its last answer */
+    uint64_t end = 0;    /* the tick of its last answer, or at which it failed */
     uint64_t looked = 0; /* the tick at which it was looked whether its bank goes on */
     failure::reason why = failure::none;
     bool is_blocking = true, is_end_told = false, is_told = false; /* whether its initiator knows that it was taken, and answered */
@@ -171,7 +171,7 @@ public:
         if (result != PCM_OK)
             died(result);
         else if (banks[bank_of(it.parts[it.sent])].mark != PCM_GOING)
-            it.why = failure::worn;
+            fail(it, failure::worn);
     }
     /* Every bank goes on to a tick, or until a row (not 0) has its outcome, at most to a tick. */
     bool settle(uint64_t tick, uint32_t until = 0)
@@ -194,7 +194,7 @@ public:
             died(result);
         else
             settle(tick);
-        fail(failure::power);
+        fail_all(failure::power);
     }
 
     /* The row that a request waits for: one that leaves room for what is held back, or else its own; 0 where there is none. */
@@ -248,17 +248,21 @@ private:
     void died(enum pcm_result result)
     {
         has_ended_ = true;
-        fail(failure::ended);
+        fail_all(failure::ended);
         SC_REPORT_ERROR("/pcm_tlm/stream", ("the program of streams answers " + std::to_string(result)).c_str());
     }
-    void fail(failure::reason why)
+    /* A request has failed, at the module's tick; and so have all that aren't done. */
+    void fail(request &it, failure::reason why)
     {
-        for (const auto &it : under_way_) {
-            if (it->is_done())
-                continue;
-            count.ended += why == failure::power;
-            it->why = why;
-        }
+        count.ended += why == failure::power;
+        it.why = why;
+        it.end = pcm_->tick;
+    }
+    void fail_all(failure::reason why)
+    {
+        for (const auto &it : under_way_)
+            if (!it->is_done())
+                fail(*it, why);
     }
     static void taken(void *context, const struct pcm_outcome *it) { static_cast<device *>(context)->take(*it); }
     /* What became of a row. */
@@ -275,7 +279,7 @@ private:
             answer(*was.by, *was.mine, it);
     }
     /* A row that somebody waits for has its outcome. (A write that is stored or merged by now was accepted; of a lost read `cut` tells.) */
-    static void answer(request &by, part &mine, const struct pcm_outcome &it)
+    void answer(request &by, part &mine, const struct pcm_outcome &it)
     {
         if (it.kind == PCM_READ || it.kind == PCM_FORWARDED) {
             for (uint32_t i = 0; i < mine.size; i++)
@@ -285,7 +289,7 @@ private:
             by.end = std::max(by.end, it.tick);
         } else if (it.kind == PCM_WORN) {
             mine.is_refused = true;
-            by.why = failure::worn;
+            fail(by, failure::worn);
         }
     }
     void forget(uint32_t number)
