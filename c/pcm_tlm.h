@@ -46,6 +46,7 @@ public:
     /* The same at a time to come. Told ahead, it is exact for a quantum, too. */
     void cut_at(sc_core::sc_time when)
     {
+        when = std::max(when, sc_core::sc_time_stamp());
         planned_.insert(when);
         due_.notify(when - sc_core::sc_time_stamp());
     }

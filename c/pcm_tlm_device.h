@@ -3,6 +3,9 @@
 #ifndef PCM_TLM_DEVICE_H
 #define PCM_TLM_DEVICE_H
 
+#if __cplusplus < 201703L
+#error "pcm_tlm.h is C++17, as Debian's library of SystemC is"
+#endif
 #if defined(SYSTEMC_INCLUDED) && !defined(SC_INCLUDE_DYNAMIC_PROCESSES)
 #error "include pcm_tlm.h before systemc, or define SC_INCLUDE_DYNAMIC_PROCESSES before it: the sockets of tlm_utils need that"
 #endif
@@ -88,7 +91,7 @@ public:
             lent.push_back(word.c_str());
         lent.push_back(nullptr);
         if (pcm_open(pcm_.get(), lent.data()) != PCM_OK || pcm_learn(pcm_.get(), nullptr) != PCM_OK)
-            SC_REPORT_FATAL("/pcm_tlm/open", ("the program of streams can't be started: " + words[0]).c_str());
+            SC_REPORT_FATAL("/pcm_tlm/open", ("the program of streams can't be started, or refuses its words:" + joined(words)).c_str());
         read_ticks_ = strtoull(pcm__value(lent.data(), "--read-ticks", "5"), nullptr, 10);
         line_ = pcm_->shape.line;
         size_ = static_cast<uint64_t>(pcm_->shape.banks) * pcm_->shape.regions * pcm_->shape.lines * line_;
@@ -235,6 +238,13 @@ public:
 
 private:
     static const size_t most_banks = 64;
+    static std::string joined(const std::vector<std::string> &words)
+    {
+        std::string all;
+        for (const std::string &word : words)
+            all += " " + word;
+        return all;
+    }
     /* A row without an outcome. */
     struct row {
         uint32_t bank;
