@@ -46,6 +46,7 @@ public:
     /* The same at a time to come. Told ahead, it is exact for a quantum, too. */
     void cut_at(sc_core::sc_time when)
     {
+        when = std::max(when, sc_core::sc_time_stamp());
         planned_.insert(when);
         due_.notify(when - sc_core::sc_time_stamp());
     }
@@ -128,7 +129,7 @@ protected:
     /* A request is answered: its response is set. */
     void close(const request &it)
     {
-        bool is_late = it.why == failure::none && !it.parts.empty() && sc_core::sc_time_stamp() > time_of(it.end);
+        bool is_late = it.why != failure::power && !it.parts.empty() && sc_core::sc_time_stamp() > time_of(it.end);
         device_.count.late += keeps_ == timing::exact && is_late;
         it.trans->set_response_status(it.why == failure::none ? tlm::TLM_OK_RESPONSE : tlm::TLM_GENERIC_ERROR_RESPONSE);
         if (failure *told = it.trans->get_extension<failure>())
@@ -186,7 +187,8 @@ private:
         for (request *it : waiting)
             device_.put_more(*it);
     }
-    /* All that act at this time act first, and one engine rests at a time, so that none takes another for one that acts. Answers how long nobody acts. */
+    /* All that act at this time act first, and one engine rests at a time, so that none takes another for one that acts. It answers how long nobody
+       acts then. */
     time rest()
     {
         resting_.push_back(this);
@@ -219,11 +221,10 @@ private:
             if (!it->is_done() || it->is_told)
                 continue;
             it->is_told = true;
-            time after = it->why == failure::none ? from_now(it->end) : sc_core::SC_ZERO_TIME;
             if (it->is_blocking)
-                it->done.notify(after);
+                it->done.notify(from_now(it->end));
             else
-                is_answered(*it, after);
+                is_answered(*it, from_now(it->end));
         }
     }
 
@@ -236,7 +237,7 @@ private:
         std::shared_ptr<request> it = device_.open(trans, is_off_ ? failure::power : failure::none);
         device_.put(*it, tick);
         run(*it, true);
-        delay = from_now(std::max(tick, it->why == failure::none ? it->end : device_.tick()));
+        delay = from_now(std::max(tick, it->end));
         close(*it);
     }
     /* The module goes on, without the kernel, until a request is done. */
@@ -279,6 +280,7 @@ private:
     {
         uint64_t tick = next_cut();
         planned_.erase(planned_.begin());
+        device_.count.late += keeps_ == timing::quantum && device_.tick() > tick;
         if (!is_off_)
             cut_by(tick);
     }

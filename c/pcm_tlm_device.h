@@ -3,6 +3,9 @@
 #ifndef PCM_TLM_DEVICE_H
 #define PCM_TLM_DEVICE_H
 
+#if __cplusplus < 201703L
+#error "pcm_tlm.h is C++17, as Debian's library of SystemC is"
+#endif
 #if defined(SYSTEMC_INCLUDED) && !defined(SC_INCLUDE_DYNAMIC_PROCESSES)
 #error "include pcm_tlm.h before systemc, or define SC_INCLUDE_DYNAMIC_PROCESSES before it: the sockets of tlm_utils need that"
 #endif
@@ -43,7 +46,7 @@ struct counts {
     uint64_t kinds[PCM_SETTLED] = {}; /* outcomes of rows, by enum pcm_kind; each line of a transaction is a row */
     uint64_t ended = 0;               /* transactions that a cut ended */
     uint64_t settles = 0;             /* how often the program was waited for */
-    uint64_t late = 0;                /* of exact timing: requests, cuts and answers behind their own tick: none */
+    uint64_t late = 0;                /* requests, cuts and answers of exact timing, and planned cuts, behind their own tick: none */
 };
 
 /* What a transaction has in one line. */
@@ -59,7 +62,7 @@ struct request {
     tlm::tlm_generic_payload *trans = nullptr;
     std::vector<part> parts;
     size_t sent = 0, answered = 0;
-    uint64_t end = 0;    /* the tick of its last answer */
+    uint64_t end = 0;    /* the tick of its last answer, or at which it failed */
     uint64_t looked = 0; /* the tick at which it was looked whether its bank goes on */
     failure::reason why = failure::none;
     bool is_blocking = true, is_end_told = false, is_told = false; /* whether its initiator knows that it was taken, and answered */
@@ -88,7 +91,7 @@ public:
             lent.push_back(word.c_str());
         lent.push_back(nullptr);
         if (pcm_open(pcm_.get(), lent.data()) != PCM_OK || pcm_learn(pcm_.get(), nullptr) != PCM_OK)
-            SC_REPORT_FATAL("/pcm_tlm/open", ("the program of streams can't be started: " + words[0]).c_str());
+            SC_REPORT_FATAL("/pcm_tlm/open", ("the program of streams can't be started, or refuses its words:" + joined(words)).c_str());
         read_ticks_ = strtoull(pcm__value(lent.data(), "--read-ticks", "5"), nullptr, 10);
         line_ = pcm_->shape.line;
         size_ = static_cast<uint64_t>(pcm_->shape.banks) * pcm_->shape.regions * pcm_->shape.lines * line_;
@@ -171,7 +174,7 @@ public:
         if (result != PCM_OK)
             died(result);
         else if (banks[bank_of(it.parts[it.sent])].mark != PCM_GOING)
-            it.why = failure::worn;
+            fail(it, failure::worn);
     }
     /* Every bank goes on to a tick, or until a row (not 0) has its outcome, at most to a tick. */
     bool settle(uint64_t tick, uint32_t until = 0)
@@ -194,7 +197,7 @@ public:
             died(result);
         else
             settle(tick);
-        fail(failure::power);
+        fail_all(failure::power);
     }
 
     /* The row that a request waits for: one that leaves room for what is held back, or else its own; 0 where there is none. */
@@ -235,6 +238,13 @@ public:
 
 private:
     static const size_t most_banks = 64;
+    static std::string joined(const std::vector<std::string> &words)
+    {
+        std::string all;
+        for (const std::string &word : words)
+            all += " " + word;
+        return all;
+    }
     /* A row without an outcome. */
     struct row {
         uint32_t bank;
@@ -248,17 +258,21 @@ private:
     void died(enum pcm_result result)
     {
         has_ended_ = true;
-        fail(failure::ended);
+        fail_all(failure::ended);
         SC_REPORT_ERROR("/pcm_tlm/stream", ("the program of streams answers " + std::to_string(result)).c_str());
     }
-    void fail(failure::reason why)
+    /* A request has failed, at the module's tick; and so have all that aren't done. */
+    void fail(request &it, failure::reason why)
     {
-        for (const auto &it : under_way_) {
-            if (it->is_done())
-                continue;
-            count.ended += why == failure::power;
-            it->why = why;
-        }
+        count.ended += why == failure::power;
+        it.why = why;
+        it.end = pcm_->tick;
+    }
+    void fail_all(failure::reason why)
+    {
+        for (const auto &it : under_way_)
+            if (!it->is_done())
+                fail(*it, why);
     }
     static void taken(void *context, const struct pcm_outcome *it) { static_cast<device *>(context)->take(*it); }
     /* What became of a row. */
@@ -275,7 +289,7 @@ private:
             answer(*was.by, *was.mine, it);
     }
     /* A row that somebody waits for has its outcome. (A write that is stored or merged by now was accepted; of a lost read `cut` tells.) */
-    static void answer(request &by, part &mine, const struct pcm_outcome &it)
+    void answer(request &by, part &mine, const struct pcm_outcome &it)
     {
         if (it.kind == PCM_READ || it.kind == PCM_FORWARDED) {
             for (uint32_t i = 0; i < mine.size; i++)
@@ -285,7 +299,7 @@ private:
             by.end = std::max(by.end, it.tick);
         } else if (it.kind == PCM_WORN) {
             mine.is_refused = true;
-            by.why = failure::worn;
+            fail(by, failure::worn);
         }
     }
     void forget(uint32_t number)

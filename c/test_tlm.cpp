@@ -1,6 +1,6 @@
 /* Tests of pcm_tlm.h and pcm_tlm_at.h: initiators draw transactions, the power goes at drawn times, and a scoreboard says what may be read.
-       test_tlm PROGRAM exact|quantum|at|errors [--transactions N] [--initiators N] [--memories N] [--cuts N] [--longest BYTES] [--idle NS]
-                [--draw N] [OPTION ..]
+       test_tlm PROGRAM exact|quantum|at|converted|errors [--transactions N] [--initiators N] [--memories N] [--cuts N] [--longest BYTES] [--idle NS]
+                [--draw N] [--plan 1] [OPTION ..]
    Each initiator has addresses of its own, at which a byte that was answered TLM_OK_RESPONSE must be read ever after. Other options are the module's.
    It prints what came; status 1 where a byte was wrong, the base protocol was broken, an answer wasn't at its tick, or a row was full or busy. */
 #include "test_tlm_traffic.hpp"
@@ -36,7 +36,8 @@ public:
     tlm_utils::simple_initiator_socket<asker, 64> socket;
     sc_signal<bool> power_good;
     SC_HAS_PROCESS(asker);
-    asker(sc_module_name name, uint64_t bytes_in_all) : sc_module(name), socket("socket"), power_good("power_good", true), size(bytes_in_all)
+    asker(sc_module_name name, pcm_tlm::memory<64> &asked)
+        : sc_module(name), socket("socket"), power_good("power_good", true), memory(asked), size(asked.size())
     {
         SC_THREAD(run);
     }
@@ -99,6 +100,7 @@ private:
     {
         power_good.write(false);
         wait(1, SC_NS);
+        uint64_t tick = memory.stream().tick;
         check(ask(tlm::TLM_READ_COMMAND, 0, 1, 1) == tlm::TLM_GENERIC_ERROR_RESPONSE && why.why == pcm_tlm::failure::power, "a read in the dark");
         trans.set_write();
         check(socket->transport_dbg(trans) == 0, "debug transport in the dark");
@@ -107,7 +109,9 @@ private:
         wait(1, SC_NS);
         sc_time begun = sc_time_stamp();
         check(ask(tlm::TLM_READ_COMMAND, 0, 1, 1) == tlm::TLM_OK_RESPONSE && sc_time_stamp() - begun < sc_time(1, SC_US), "a read behind it");
+        check(memory.stream().tick - tick < 50, "no tick passes in the dark");
     }
+    pcm_tlm::memory<64> &memory;
     uint64_t size;
     tlm::tlm_generic_payload trans;
     pcm_tlm::failure why;
@@ -133,7 +137,7 @@ static void add(pcm_tlm::counts &sum, const pcm_tlm::counts &more)
 }
 
 /* So many memories, each with its initiators and its plug, from the beginning to the end. */
-template <class Initiator, class Make, class... More> static pcm_tlm::counts simulate(const options &asked, bool plans, Make make, More... more)
+template <class Initiator, class Make, class... More> static pcm_tlm::counts simulate(const options &asked, Make make, More... more)
 {
     std::vector<decltype(make())> memories;
     std::vector<std::unique_ptr<Initiator>> initiators;
@@ -150,7 +154,7 @@ template <class Initiator, class Make, class... More> static pcm_tlm::counts sim
             initiators.emplace_back(new Initiator(sc_gen_unique_name("initiator"), asked, i * share, share, 100 * asked.draw + 10 * m + i, more...));
             initiators.back()->socket.bind(*buses[m]->in[i]);
         }
-        if (plans)
+        if (asked.plan)
             plan_cuts(*memories[m], asked, apart);
         else
             plugs.emplace_back(new plug(sc_gen_unique_name("plug"), asked, apart)), memories[m]->power.bind(plugs[m]->power_good);
@@ -169,11 +173,13 @@ static pcm_tlm::counts simulate_by(const std::string &mode, const options &asked
     auto make_at = [&] { return std::make_unique<pcm_tlm::memory_at<>>(sc_gen_unique_name("memory"), words, tick); };
     tlm_utils::tlm_quantumkeeper::set_global_quantum(sc_time(1, SC_US));
     if (mode == "at")
-        return simulate<phaser>(asked, false, make_at);
+        return simulate<phaser>(asked, make_at, true);
+    if (mode == "converted") /* (by the loosely timed memory's socket) */
+        return simulate<phaser>(asked, make, false);
     if (mode != "errors")
-        return simulate<caller>(asked, mode == "quantum", make, mode == "quantum");
+        return simulate<caller>(asked, make, mode == "quantum");
     pcm_tlm::memory<64> memory("memory", words, tick);
-    asker it("asker", memory.size());
+    asker it("asker", memory);
     it.socket.bind(memory.socket);
     memory.power.bind(it.power_good);
     sc_start();
@@ -185,10 +191,10 @@ int sc_main(int count, char **given)
     options asked;
     std::map<std::string, uint64_t *> numbers = {
         {"--transactions", &asked.transactions}, {"--initiators", &asked.initiators}, {"--memories", &asked.memories}, {"--cuts", &asked.cuts},
-        {"--longest", &asked.longest}, {"--idle", &asked.idle}, {"--draw", &asked.draw}};
+        {"--longest", &asked.longest}, {"--idle", &asked.idle}, {"--draw", &asked.draw}, {"--plan", &asked.plan}};
     const std::string mode = count > 2 ? given[2] : "";
-    if (mode != "exact" && mode != "quantum" && mode != "at" && mode != "errors") {
-        fprintf(stderr, "usage: test_tlm PROGRAM exact|quantum|at|errors [option ..]\n");
+    if (mode != "exact" && mode != "quantum" && mode != "at" && mode != "converted" && mode != "errors") {
+        fprintf(stderr, "usage: test_tlm PROGRAM exact|quantum|at|converted|errors [option ..]\n");
         return 2;
     }
     std::vector<std::string> words = {given[1], "stream"};

@@ -44,7 +44,7 @@ public:
         if (others[at].erase(byte) != 0)
             newest[at] = byte;
         else if (all.wrong++ < 5)
-            fprintf(stderr, "%s: byte %lu is %02x, not %02x\n", sc_time_stamp().to_string().c_str(), static_cast<unsigned long>(at), byte, newest[at]);
+            fprintf(stderr, "%s: byte %ld is %02x, not %02x\n", sc_time_stamp().to_string().c_str(), static_cast<long>(at), byte, newest[at]);
     }
 
 private:
@@ -54,6 +54,7 @@ private:
 
 struct options {
     uint64_t transactions = 20000, initiators = 1, memories = 1, cuts = 0, longest = 200, idle = 200, draw = 1;
+    uint64_t plan = 0; /* cuts are told ahead */
 };
 
 /* A transaction that was drawn, with its memory. */
@@ -175,7 +176,32 @@ private:
         keeper.set(delay);
         if (keeper.need_sync() || !keeps_quantum)
             keeper.sync();
-        return judge(it);
+        bool is_ok = judge(it);
+        if (!is_ok && trans.is_write())
+            look_for_gaps(it);
+        return is_ok;
+    }
+    /* A write that wasn't served is there up to one of its lines, and not from there on. */
+    void look_for_gaps(const job &it)
+    {
+        std::vector<unsigned char> seen(it.data.size());
+        tlm::tlm_generic_payload look;
+        look.set_read();
+        look.set_address(trans.get_address());
+        look.set_data_ptr(seen.data());
+        look.set_data_length(static_cast<unsigned>(seen.size()));
+        check(socket->transport_dbg(look) == seen.size(), "debug transport of a write");
+        bool has_ended = false;
+        for (size_t i = 0; i < seen.size();) {
+            size_t end = i + std::min<size_t>(seen.size() - i, 64 - (trans.get_address() + i) % 64), given = 0;
+            bool is_there = true;
+            for (; i < end; i++) {
+                given += it.is_given(i);
+                is_there = is_there && (!it.is_given(i) || seen[i] == it.data[i]);
+            }
+            check(given < 8 || !is_there || !has_ended, "a write has a gap");
+            has_ended = has_ended || !is_there;
+        }
     }
     bool keeps_quantum;
     tlm::tlm_generic_payload trans;
@@ -213,8 +239,8 @@ class phaser : public sc_module, public traffic {
 public:
     tlm_utils::simple_initiator_socket<phaser> socket;
     SC_HAS_PROCESS(phaser);
-    phaser(sc_module_name name, const options &drawn, uint64_t first, uint64_t bytes, uint64_t seed)
-        : sc_module(name), traffic(drawn, first, bytes, seed), socket("socket")
+    phaser(sc_module_name name, const options &drawn, uint64_t first, uint64_t bytes, uint64_t seed, bool has_all_phases)
+        : sc_module(name), traffic(drawn, first, bytes, seed), socket("socket"), has_end_req(has_all_phases)
     {
         running++;
         socket.register_nb_transport_bw(this, &phaser::nb_transport_bw);
@@ -260,8 +286,12 @@ private:
             request_ended.notify(SC_ZERO_TIME);
             return tlm::TLM_ACCEPTED;
         }
-        check(requesting != &trans, "BEGIN_RESP before END_REQ");
+        check(!has_end_req || requesting != &trans, "BEGIN_RESP before END_REQ");
         check(responding == nullptr, "two responses at once");
+        if (requesting == &trans) { /* (without END_REQ it ends the request, too) */
+            requesting = nullptr;
+            request_ended.notify(SC_ZERO_TIME);
+        }
         judge(*jobs[&trans]);
         use(*jobs[&trans], -1);
         if (number(2)) {
@@ -304,6 +334,7 @@ private:
     {
         for_blocks(it, [&](uint64_t block) { busy[block] += change; });
     }
+    bool has_end_req;
     pool memory;
     std::map<tlm::tlm_generic_payload *, std::unique_ptr<job>> jobs;
     std::map<uint64_t, int> busy;
