@@ -69,6 +69,6 @@ module _ {n m e : ℕ} (raw : RawShape) (seed : ℕ) (off : Bool) (part_of : ℕ
 pub parted_streams_law : PartedLaw → PartedStreamsLaw
 parted_streams_law law n m e raw seed off part_of events streams array is served =
     let right =
-        law n m e raw seed off (parts raw seed off part_of events streams array served) (rows_joined (bank_of_line raw seed) part_of streams events)
-        array is (parted raw seed off part_of events streams array served) in
+    law n m e raw seed off (parts raw seed off part_of events streams array served) (rows_joined (bank_of_line raw seed) part_of streams events)
+    array is (parted raw seed off part_of events streams array served) in
     (ends_in (parts raw seed off part_of events streams array served), right.0, right.1)
