@@ -1,5 +1,5 @@
 -- A trace in parts, each bank's rows in one of them, and the outcomes that streams of these parts told of its rows.
-use Rattle.std.specs.Prelude.{◌≡◌, ℕ, ◌+◌, ◌<◌, ◌≤◌, ◌==◌, Bool, true, List, [], ◌∷◌, All, filter, length}
+use Rattle.std.specs.Prelude.{◌≡◌, ℕ, ◌+◌, ◌<◌, ◌≤◌, ◌==◌, Bool, true, List, [], ◌∷◌, All, None, filter, length}
 use Rattle.cell_rows.specs.Device.{ArrayState}
 use Rattle.trace_reader.specs.{declared.event.Event.Event, declared.event.EventOp.EventOp, declared.event.EventOp.TheVariants.{Read, Write, Mask, Cut}}
 use Rattle.result_rows.specs.declared.Outcome.{Outcome}
@@ -85,3 +85,10 @@ PartedStreamsLaw =
     → (ends : ℕ → BankEnd)
     × RunsRightTo e raw seed off (rows_joined (bank_of_line raw seed) part_of streams events) array ends
     × ((bank : ℕ) → bank < raw.banks → IsEndOf (bank_at (streams (part_of bank)).module_ bank).bank.kept (ends bank))
+
+-- a stream that was served to its end, over an array that tells no log, is one in parts, of which all banks have the same
+abbrev pub OneStreamLaw : Type 0
+OneStreamLaw =
+    (n m e : ℕ) (raw : RawShape) (seed : ℕ) (off : Bool) (stream : Streamed n m e)
+    → HasEnded raw seed off stream.asked stream.module_ stream.array stream.places stream.told → stream.array.log ≡ None
+    → IsServedInParts raw seed off (λ bank. 0) (events_in stream.asked) (λ part. stream) stream.array

@@ -4,7 +4,7 @@
 //! functions do nothing when they run.
 #![tactic(auto)]
 
-ghost use Rattle.parted_streams.specs.Streamed.{PartedStreamsLaw};
+ghost use Rattle.parted_streams.specs.Streamed.{OneStreamLaw, PartedStreamsLaw};
 
 use parted_laws::parts_are_one_run;
 
@@ -15,3 +15,9 @@ pub fn streams_of_parts_are_one_run()
 {
     parts_are_one_run();
 }
+
+/// A stream that was served to its end is one in parts of which there is one, where its array tells
+/// no log: of parts no more is asked than a stream gives.
+pub fn a_stream_is_its_only_part()
+    ensures { OneStreamLaw }
+{}
