@@ -1,9 +1,7 @@
 ghost use Rattle.std.specs.Prelude.{◌≡◌, ◌<◌};
 
 use crate::comparing::compare;
-use pcm_cells::{
-    CellArray, CellWear, Cells, LoggedArray, MemArray, ScriptArray, Sense, TellsCells, Wear,
-};
+use pcm_cells::{CellArray, Cells, LoggedArray, ScriptArray, Sense, Wear};
 use std::alloc::{AllocError, Global};
 
 // Cells live on, and miss up to three times.
@@ -105,55 +103,4 @@ fn logged(
 fn a_log_has_each_sense(rt: HostRuntime) {
     let senses = [(3, 5, 0, 0, 0), (3, 15, 0xff, 0, 1), (3, 105, 0xff, 0, 1)];
     compare(&rt, logged(rt.alloc()), Ok((Some(senses), [None, Some(0)])));
-}
-
-const ONES: Cells<64, 8> = Cells {
-    bits: [0xff; 64],
-    meta: [0xff; 8],
-};
-
-// Cells live through two changes or through three, and none misses.
-const BRIEF: Wear = Wear {
-    seed: 7,
-    lo: 2,
-    hi: 3,
-    misses: 0,
-};
-
-// What an array tells that counts changes.
-fn worn(stuck: u32, changes: u32) -> Option<CellWear> {
-    Some(CellWear { stuck, changes })
-}
-
-// How line 1 is worn before a write, behind one, two and three; how line 0 is, and whether line 1 holds what is sensed.
-fn wear_out<A: TellsCells<64, 8>>(array: &mut A) -> ([Option<CellWear>; 5], bool)
-    requires { 1 < (A.state array.old).lines }
-{
-    let new = array.cell_wear(1);
-    overwrite(array, 1, &ONES, 0);
-    let once = array.cell_wear(1);
-    overwrite(array, 1, &Cells::zero(), 1);
-    let twice = array.cell_wear(1);
-    overwrite(array, 1, &ONES, 2);
-    let told = [new, once, twice, array.cell_wear(1), array.cell_wear(0)];
-    (told, array.held(1).differ(&array.sense(1, 3)).is_none())
-}
-
-fn worn_by_writes(alloc: Global) -> Result<([Option<CellWear>; 5], bool), AllocError> {
-    let mut array: MemArray<64, 8> = MemArray::new();
-    array.power_up(alloc, 2, BRIEF)?;
-    Ok(wear_out(&mut array))
-}
-
-// By the generator's words 295 of the 576 cells live through two changes alone.
-#[test]
-fn an_array_tells_how_the_cells_of_a_line_are_worn(rt: HostRuntime) {
-    let expected = [
-        worn(0, 0),
-        worn(0, 1),
-        worn(295, 2),
-        worn(576, 3),
-        worn(0, 0),
-    ];
-    compare(&rt, worn_by_writes(rt.alloc()), Ok((expected, true)));
 }
