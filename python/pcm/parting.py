@@ -25,7 +25,7 @@ Not in parts: --print snapshots (they are due by numbers of rows of the whole tr
 row is the first of all no part knows), and a settle until, `tick,U,ROW,`, which is told at its row, before anything is printed.
 
 A fault of the trace is told as a stream tells it, and nothing else is printed. Statuses are those of a stream; 5 also where another call is
-at work at the folder, and 70 where a process was ended by a signal."""
+at work at the folder, and 70 where a process was ended by a signal, or couldn't be started."""
 import contextlib
 import dataclasses
 import functools
@@ -99,6 +99,12 @@ def read_words(words: Sequence[str]) -> Given:
         raise UsageError(2, wrong)
     pairs = [part for word in streams for part in (word.split("=", 1) if word.startswith("--") else [word])]
     given.options = {name[2:]: value for name, value in zip(pairs[::2], pairs[1::2])}
+    _refuse(given)
+    return given
+
+
+def _refuse(given: Given) -> None:
+    """Says which words can't stand, or not beside each other."""
     for (name, value), why in _WHOLE.items():
         if given.options.get(name) == value:
             raise UsageError(2, f"--{name} {value} isn't played in parts: {why}")
@@ -112,7 +118,6 @@ def read_words(words: Sequence[str]) -> Given:
     of_folder = [name for name in of_folder if name != "--pieces"]
     if len(of_folder) > 1:
         raise UsageError(2, f"{of_folder[0]} and {of_folder[1]} are two things to do")
-    return given
 
 
 def asked_by(given: Given, jobs: int) -> Asked:
@@ -133,11 +138,11 @@ def asked_by(given: Given, jobs: int) -> Asked:
 def asked_in(folder: Folder, given: Given, jobs: int) -> Asked:
     """What is asked for of a folder: what it was made for, which words mustn't gainsay."""
     stands = folder.asked()
-    asked = asked_by(given, jobs)
+    asked = asked_by(given if given.options or not stands else dataclasses.replace(given, options=stands.options), jobs)
     if stands is None:
         folder.note_asked(asked)
         return asked
-    if given.options and given.options != stands.options or "parts" in given.values and asked.parts != stands.parts:
+    if asked.options != stands.options or "parts" in given.values and asked.parts != stands.parts:
         raise UsageError(2, f"{folder.path} was made by other words: {_words_of(stands)}")
     if "order" in given.values and asked.by_number != stands.by_number:
         raise UsageError(2, f"{folder.path} was made by other words: {_words_of(stands)}")
