@@ -141,6 +141,8 @@ _STREAM = [
     _number("rows", "N", 1000, 1, 4000000000, "rows of the drawn trace"),
     _number("cuts", "N", 0, 0, 4000000000, "power cuts among the drawn rows"),
     _number("hot", "N", 0, 0, LARGE.all_lines, "lines that nine of ten drawn rows go to"),
+    _number("first-bank", "A", 0, 0, 63, "first bank whose drawn rows are served"),
+    _number("last-bank", "B", 63, 0, 63, "last bank whose drawn rows are served"),
 ]
 _FROM = _number("from", "T", 0, 0, 16781312, "gap moves that were made before")
 
@@ -280,6 +282,9 @@ def _together(command: Command, given: Dict[str, str]) -> Optional[str]:
         return f"--cuts {value['cuts']} are more than --rows {value['rows']}"
     if streams and int(value["rows"]) * int(value["step"]) > LATEST_TICK:
         return f"--rows times --step is {int(value['rows']) * int(value['step'])}: it may be at most {LATEST_TICK}"
+    some = [name for name in ("first-bank", "last-bank") if streams and name in given]
+    if some and (value["input"] != "drawn" or value["end"] != "drain"):
+        return f"--{some[0]} belongs to --input drawn and --end drain alone"
     if streams and "every" in given and value["print"] != "snapshots":
         return "--every belongs to --print snapshots alone"
     if streams and "tell" in given and value["print"] != "rows":
