@@ -37,7 +37,8 @@ Why results of a trace break a rule, and what would be right there::
 `pcm.explain_all` tells the same of the first such row of each bank.
 
 `python3 -m pcm report --help` tells how to make a page of pictures and numbers of runs, `energy --help` what their writes cost,
-`latencies --help` how long rows took, and `explain --help` how to draw a row that breaks a rule.
+`latencies --help` how long rows took, `explain --help` how to draw a row that breaks a rule, and `parts --help` how to play a stream on
+several processors.
 
 Ticks are the simulation's own unit of time, from 0 to 2**40, and never fall. A line is a line of the module, from 0. Options are those of
 the command line, with `_` for `-`: `docs/USING.md` of the repository has them all. A wrong option, a fault of the trace and an end of the
