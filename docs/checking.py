@@ -196,6 +196,8 @@ def ends(option):
 
 def beside(command, option, text):
     """The words beside an option's value that let no other rule speak: sizes small, and rows at one tick."""
+    if option in ("first-bank", "last-bank"):
+        return ["--input", "drawn"]
     if option == "every":
         return ["--print", "snapshots"]
     if option == "skip":
