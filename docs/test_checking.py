@@ -15,7 +15,11 @@ class Commands(unittest.TestCase):
     def test_a_command_has_its_further_lines_and_its_output(self):
         lines = ["text", "    $ ./pcm run \\", "    > --psi 1", "    row,op", "    1,W", "    $ true", "", "    $ false"]
         found = list(checking.blocks(lines))
-        self.assertEqual(found, [("./pcm run \\\n--psi 1", 3, 5), ("true", 6, 6), ("false", 8, 8)])
+        self.assertEqual(found, [("./pcm run \\\n--psi 1", 3, 5, "    "), ("true", 6, 6, "    "), ("false", 8, 8, "    ")])
+
+    def test_a_block_of_sh_is_run_where_a_block_of_text_has_its_output(self):
+        lines = ["```sh", "not run", "```", "", "```sh", "one", "two", "```", "```text", "out", "```", "```sh", "quiet", "```", "```text", "```"]
+        self.assertEqual(list(checking.blocks(lines)), [("one\ntwo", 9, 10, ""), ("quiet", 15, 15, "")])
 
     def test_digits_of_a_whole_line_are_cut_short(self):
         self.assertEqual(checking.shortened("1,read," + "ab" * 64), ["1,read,ab..ab"])
@@ -37,6 +41,22 @@ class Places(unittest.TestCase):
         pages = {"a.md": f"Short. {long}", "b.md": f"- **Here**: more. {long} Again.", "CHANGELOG.md": long}
         self.assertEqual(list(checking.said_twice(pages)), [f"b.md and a.md both say: {long}"])
         self.assertEqual(list(checking.said_twice({"a.md": f"{long} {long}"})), [])
+
+
+class Sizes(unittest.TestCase):
+    def test_too_many_words_and_lines_are_found(self):
+        right = {"README.md": "a b\n" * checking.MOST_LINES_OF_README, "CHANGELOG.md": "word " * checking.MOST_WORDS}
+        self.assertEqual(list(checking.too_long(right)), [])
+        self.assertIn("README.md has 111 lines", "".join(checking.too_long({"README.md": "\n" * 111})))
+        many = {"README.md": "", "docs/a.md": "word " * checking.MOST_WORDS, "docs/b.md": "word"}
+        self.assertEqual(list(checking.too_long(many)), [f"all pages but CHANGELOG.md have {checking.MOST_WORDS + 1} words, above {checking.MOST_WORDS}"])
+
+    def test_what_is_only_tested_heads_no_promise(self):
+        texts = {
+            "README.md": "## What is promised\n", "docs/USING.md": "**What is promised.** A write ..\n", "c/a.h": "/* a.h\n\n   What is promised. A write\n",
+            "python/a.py": '"""Drives.\n\nWhat it promises: all."""\n', "c/b.h": "/* It has what is promised, elsewhere */\n", "sv/a.sv": "// What it keeps (tested)\n",
+        }
+        self.assertEqual([it.partition(":")[0] for it in checking.promises_too_much(texts)], ["docs/USING.md", "c/a.h", "python/a.py"])
 
 
 class Quotes(unittest.TestCase):
