@@ -41,15 +41,12 @@ def documents():
 
 
 def list_of_crates():
-    """The list of crates/README.md, by layers."""
-    lines, layer = [], None
+    """The list of crates/README.md, a line for each layer."""
+    layers = {}
     for crate in crates.listed().values():
-        if crate.layer != layer:
-            layer = crate.layer
-            number, name = re.match(r"(\d+\.) ([^(]*[^( ])", layer).groups()
-            lines += ["", f"### {number} {name.capitalize()}", ""]
-        lines.append(f"- [{crate.name}]({crate.name}): {crate.in_short()}")
-    return "\n".join(lines).strip()
+        layers.setdefault(crate.layer, []).append(f"[{crate.name}]({crate.name})")
+    names = {layer: re.match(r"(\d+\.) ([^(]*[^( ])", layer).groups() for layer in layers}
+    return "\n".join(f"{number} **{name.capitalize()}**: {', '.join(layers[layer])}" for layer, (number, name) in names.items())
 
 
 def edges_upwards():
@@ -394,13 +391,9 @@ def undeclared(text):
             yield from (word for word in re.split(r"::|\.", span) if is_name(word) and word not in all_declared())
 
 
-# The section that has names by the crates in which the product's definition has them.
-NAMED_OTHERWISE = r"^## Names and places$.*?(?=^## |\Z)"
-
-
 def astray(text):
     """Names that a page gives as a crate's, right behind it or in front of 'of' and it, and that the crate doesn't declare."""
-    text = re.sub(rf"(?ms)^```.*?^```$|<!--.*?-->|{NAMED_OTHERWISE}", "", text)
+    text = re.sub(r"(?ms)^```.*?^```$|<!--.*?-->", "", text)
     crate = r"([a-z]+(?:_[a-z]+)+)\b"
     found = re.findall(rf"(?<![\w`/]){crate}(?:'s?)? (?:\*\*)?`([A-Za-z_:]+)`", text)
     found += [(crate, name) for name, crate in re.findall(rf"`([A-Za-z_:]+)`(?:\*\*)? of {crate}", text)]

@@ -101,8 +101,6 @@ class Names(unittest.TestCase):
     def test_a_name_is_one_of_the_crate_that_it_is_given_as(self):
         text = "bank_laws `reads_are_served`, clock_laws' `Leads`, bank_timing's `Leads`; `Bank::read` of bank_core, `Leads` of bank_core"
         self.assertEqual(list(checking.astray(text)), ["bank_timing Leads", "bank_core Leads"])
-        text = "## Names and places\n\n- `Entry` of protected_queue: elsewhere\n\n## Next\n\n`Leads` of bank_core"
-        self.assertEqual(list(checking.astray(text)), ["bank_core Leads"])
 
     def test_what_code_definitions_and_scripts_declare_is_known(self):
         code = "pub struct One {\n    pub two: u32,\n}\nenum Three {\n    Four,\n    Five(u32),\n}\npub fn six(a: u32)\n    ensures seven { a }\n"
@@ -224,13 +222,14 @@ class Versions(unittest.TestCase):
 
 
 class Crates(unittest.TestCase):
-    def test_each_crate_has_one_row(self):
-        rows = [line for line in checking.list_of_crates().splitlines() if line.startswith("- [")]
-        self.assertEqual(len(rows), len(checking.crates.listed()))
+    def test_each_crate_stands_in_its_layer(self):
+        rows = checking.list_of_crates().splitlines()
+        self.assertEqual(len(rows), len({it.layer for it in checking.crates.listed().values()}))
+        for crate in checking.crates.listed().values():
+            self.assertEqual([row.partition(" ")[0] for row in rows if f"[{crate.name}]({crate.name})" in row], [crate.layer.partition(" ")[0]])
 
-    def test_words_end_before_a_clause_of_its_own_but_where_a_list_stands(self):
-        self.assertEqual(checking.crates.named("trace_stream").in_short(), "Reads a trace row by row from any source")
-        self.assertTrue(checking.crates.named("bank_shape").in_short().endswith("and what its array lines are used for"))
+    def test_the_first_sentence_of_a_root_file_says_what_a_crate_is(self):
+        self.assertEqual(checking.crates.named("pcm_image").about().partition(":")[0], "The image of a module")
 
     def test_an_edge_upwards_is_named(self):
         self.assertEqual([it for it in checking.check_layers() if it], [])
