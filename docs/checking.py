@@ -666,7 +666,7 @@ def check_places():
 
 # How long the documents are, and what they may call a promise.
 
-MOST_WORDS = 36_000
+MOST_WORDS = 29_000
 MOST_LINES_OF_README = 110
 
 
