@@ -6,7 +6,7 @@
    The export "" is the disk. The export "control" is 4096 bytes of text: read, it tells the disk's clock and what became of its rows; written
    at its first byte, `cut` cuts the power there, `cut N` in N ticks whatever the disk does then, and `wait N` lets N ticks pass, through each
    cut that is due in them.
-   docs/USING.md ('Use a module as a disk') has what is promised, examples/device/README.md the parameters. */
+   docs/USING.md ('Use a module as a disk') says what it is, examples/device/README.md what it keeps and its parameters. */
 #define _GNU_SOURCE /* (so answers come through a pipe: pcm_stream.h) */
 #define NBDKIT_API_VERSION 2
 #include <nbdkit-plugin.h>

@@ -11,7 +11,7 @@
        if (fault == 0) fault = pcm_disk_read(&disk, bytes, 4096, 512);
        int status = pcm_disk_close(&disk);
 
-   What is promised. A write that answered 0 outlives every power cut: each of its lines is accepted by the module, and by the theorem
+   What it keeps (tested, not proved). A write that answered 0 outlives every power cut: each of its lines is accepted by the module, and by the theorem
    about the module a read gives a line's newest accepted write, however a cut tore the cells (MODEL.md, 'A power cut'). A write that a cut
    ends is written up to some line of the module, and not from there on; no line is half written. With `atomic` the same holds of
    sectors of 512 or 4,096 bytes. There is no cache to flush, and writes of one disk are made in their order.

@@ -41,15 +41,12 @@ def documents():
 
 
 def list_of_crates():
-    """The list of crates/README.md, by layers."""
-    lines, layer = [], None
+    """The list of crates/README.md, a line for each layer."""
+    layers = {}
     for crate in crates.listed().values():
-        if crate.layer != layer:
-            layer = crate.layer
-            number, name = re.match(r"(\d+\.) ([^(]*[^( ])", layer).groups()
-            lines += ["", f"### {number} {name.capitalize()}", ""]
-        lines.append(f"- [{crate.name}]({crate.name}): {crate.in_short()}")
-    return "\n".join(lines).strip()
+        layers.setdefault(crate.layer, []).append(f"[{crate.name}]({crate.name})")
+    names = {layer: re.match(r"(\d+\.) ([^(]*[^( ])", layer).groups() for layer in layers}
+    return "\n".join(f"{number} **{name.capitalize()}**: {', '.join(layers[layer])}" for layer, (number, name) in names.items())
 
 
 def edges_upwards():
@@ -108,9 +105,16 @@ def shortened(text):
 
 
 def blocks(lines):
-    """Yields each command that stands behind four blanks and '$ ', and where its output begins and ends among the lines."""
+    """Yields each command that is run, where its output begins and ends among the lines, and what stands in front of each line of it. A command
+    stands in a block of `sh` in front of a block of `text`, which is its output; or behind four blanks and '$ ' (see docs/check)."""
     at = 0
     while at < len(lines):
+        if lines[at] == "```sh":
+            end = lines.index("```", at)
+            if lines[end + 1 : end + 2] == ["```text"]:
+                yield "\n".join(lines[at + 1 : end]), end + 2, lines.index("```", end + 2), ""
+            at = end + 1
+            continue
         if not lines[at].startswith("    $ "):
             at += 1
             continue
@@ -122,7 +126,7 @@ def blocks(lines):
         begin = at
         while at < len(lines) and lines[at].startswith("    ") and not lines[at].startswith("    $ "):
             at += 1
-        yield "\n".join(command), begin, at
+        yield "\n".join(command), begin, at, "    "
 
 
 def matches(wanted, got):
@@ -154,11 +158,11 @@ def check_commands(program, writes):
         with tempfile.TemporaryDirectory() as tree:
             room = installed(tree, program)
             around = {**os.environ, "PCM": f"{room}/pcm", "PYTHONDONTWRITEBYTECODE": "1"}
-            for command, begin, end in blocks(lines):
+            for command, begin, end, margin in blocks(lines):
                 how = {"cwd": room, "env": around, "stdin": subprocess.DEVNULL, "stdout": subprocess.PIPE, "stderr": subprocess.STDOUT}
                 ran = subprocess.run(["bash", "-c", command], text=True, **how)
-                wanted, got = [it[4:] for it in lines[begin:end]], shortened(ran.stdout)
-                changes += [] if matches(wanted, got) else [(begin, end, got)]
+                wanted, got = [it[len(margin) :] for it in lines[begin:end]], shortened(ran.stdout)
+                changes += [] if matches(wanted, got) else [(begin, end, [f"{margin}{it}".rstrip() for it in got])]
                 well = matches(wanted, got) or writes
                 yield None if well else f"{document}:{begin}: {command}\n  wanted {wanted}\n  got    {got[:40]}"
             for words in EXAMPLE.findall("\n".join(lines)):
@@ -167,7 +171,7 @@ def check_commands(program, writes):
                 yield None if ran.returncode in (0, 1) else f"{document}: {words}: status {ran.returncode}"
         if writes and changes:
             for begin, end, got in reversed(changes):
-                lines[begin:end] = [f"    {it}".rstrip() for it in got]
+                lines[begin:end] = got
             (TOP / document).write_text("\n".join(lines), encoding="utf-8")
 
 
@@ -389,13 +393,9 @@ def undeclared(text):
             yield from (word for word in re.split(r"::|\.", span) if is_name(word) and word not in all_declared())
 
 
-# The section that has names by the crates in which the product's definition has them.
-NAMED_OTHERWISE = r"^## Names and places$.*?(?=^## |\Z)"
-
-
 def astray(text):
     """Names that a page gives as a crate's, right behind it or in front of 'of' and it, and that the crate doesn't declare."""
-    text = re.sub(rf"(?ms)^```.*?^```$|<!--.*?-->|{NAMED_OTHERWISE}", "", text)
+    text = re.sub(r"(?ms)^```.*?^```$|<!--.*?-->", "", text)
     crate = r"([a-z]+(?:_[a-z]+)+)\b"
     found = re.findall(rf"(?<![\w`/]){crate}(?:'s?)? (?:\*\*)?`([A-Za-z_:]+)`", text)
     found += [(crate, name) for name, crate in re.findall(rf"`([A-Za-z_:]+)`(?:\*\*)? of {crate}", text)]
@@ -664,6 +664,47 @@ def check_places():
     pages = documents()
     for found in (list(measured(pages)), list(said_twice(pages))):
         yield from found or [None]
+
+
+# How long the documents are, and what they may call a promise.
+
+MOST_WORDS = 29_000
+MOST_LINES_OF_README = 110
+
+
+def too_long(pages):
+    """Words, as `wc -w` counts them, of all pages but CHANGELOG.md, and lines of README.md, where they are too many."""
+    words = sum(len(text.split()) for document, text in pages.items() if document != "CHANGELOG.md")
+    if words > MOST_WORDS:
+        yield f"all pages but CHANGELOG.md have {words} words, above {MOST_WORDS}"
+    lines = pages["README.md"].count("\n")
+    if lines > MOST_LINES_OF_README:
+        yield f"README.md has {lines} lines, above {MOST_LINES_OF_README}"
+
+
+# Pages that may head a part 'What is promised': they speak of what is proved. C, Python, SystemVerilog and scripts are only tested.
+PROMISING = {"README.md", "docs/PROMISES.md", "CHANGELOG.md"}
+TESTED = ("c", "python", "sv", "examples")
+HEADS_PROMISE = re.compile(r"(?im)^[\s/*#>\"-]*(what (?:is|it|they|the \w+) promise[sd]?)(?=[.:*]|$)")
+
+
+def promises_too_much(texts):
+    """Files of what is only tested that head a part with the word that means a theorem elsewhere."""
+    for file, text in texts.items():
+        for found in HEADS_PROMISE.finditer(text) if file not in PROMISING else ():
+            yield f"{file}: '{found[1]}' heads what is only tested: say 'What it keeps (tested)'"
+
+
+def tested_texts():
+    """All pages, and the files of code that isn't proved."""
+    files = [it for folder in TESTED for it in sorted(TOP.glob(f"{folder}/**/*")) if it.is_file() and "out" not in it.parts]
+    kinds = ("", ".py", ".sh", ".c", ".h", ".cpp", ".hpp", ".sv")
+    return {**documents(), **{str(it.relative_to(TOP)): it.read_text(encoding="utf-8", errors="replace") for it in files if it.suffix in kinds}}
+
+
+def check_words_of_pages():
+    yield from list(too_long(documents())) or [None]
+    yield from list(promises_too_much(tested_texts())) or [None]
 
 
 # Merge messages.

@@ -15,7 +15,11 @@ class Commands(unittest.TestCase):
     def test_a_command_has_its_further_lines_and_its_output(self):
         lines = ["text", "    $ ./pcm run \\", "    > --psi 1", "    row,op", "    1,W", "    $ true", "", "    $ false"]
         found = list(checking.blocks(lines))
-        self.assertEqual(found, [("./pcm run \\\n--psi 1", 3, 5), ("true", 6, 6), ("false", 8, 8)])
+        self.assertEqual(found, [("./pcm run \\\n--psi 1", 3, 5, "    "), ("true", 6, 6, "    "), ("false", 8, 8, "    ")])
+
+    def test_a_block_of_sh_is_run_where_a_block_of_text_has_its_output(self):
+        lines = ["```sh", "not run", "```", "", "```sh", "one", "two", "```", "```text", "out", "```", "```sh", "quiet", "```", "```text", "```"]
+        self.assertEqual(list(checking.blocks(lines)), [("one\ntwo", 9, 10, ""), ("quiet", 15, 15, "")])
 
     def test_digits_of_a_whole_line_are_cut_short(self):
         self.assertEqual(checking.shortened("1,read," + "ab" * 64), ["1,read,ab..ab"])
@@ -37,6 +41,22 @@ class Places(unittest.TestCase):
         pages = {"a.md": f"Short. {long}", "b.md": f"- **Here**: more. {long} Again.", "CHANGELOG.md": long}
         self.assertEqual(list(checking.said_twice(pages)), [f"b.md and a.md both say: {long}"])
         self.assertEqual(list(checking.said_twice({"a.md": f"{long} {long}"})), [])
+
+
+class Sizes(unittest.TestCase):
+    def test_too_many_words_and_lines_are_found(self):
+        right = {"README.md": "a b\n" * checking.MOST_LINES_OF_README, "CHANGELOG.md": "word " * checking.MOST_WORDS}
+        self.assertEqual(list(checking.too_long(right)), [])
+        self.assertIn("README.md has 111 lines", "".join(checking.too_long({"README.md": "\n" * 111})))
+        many = {"README.md": "", "docs/a.md": "word " * checking.MOST_WORDS, "docs/b.md": "word"}
+        self.assertEqual(list(checking.too_long(many)), [f"all pages but CHANGELOG.md have {checking.MOST_WORDS + 1} words, above {checking.MOST_WORDS}"])
+
+    def test_what_is_only_tested_heads_no_promise(self):
+        texts = {
+            "README.md": "## What is promised\n", "docs/USING.md": "**What is promised.** A write ..\n", "c/a.h": "/* a.h\n\n   What is promised. A write\n",
+            "python/a.py": '"""Drives.\n\nWhat it promises: all."""\n', "c/b.h": "/* It has what is promised, elsewhere */\n", "sv/a.sv": "// What it keeps (tested)\n",
+        }
+        self.assertEqual([it.partition(":")[0] for it in checking.promises_too_much(texts)], ["docs/USING.md", "c/a.h", "python/a.py"])
 
 
 class Quotes(unittest.TestCase):
@@ -81,8 +101,6 @@ class Names(unittest.TestCase):
     def test_a_name_is_one_of_the_crate_that_it_is_given_as(self):
         text = "bank_laws `reads_are_served`, clock_laws' `Leads`, bank_timing's `Leads`; `Bank::read` of bank_core, `Leads` of bank_core"
         self.assertEqual(list(checking.astray(text)), ["bank_timing Leads", "bank_core Leads"])
-        text = "## Names and places\n\n- `Entry` of protected_queue: elsewhere\n\n## Next\n\n`Leads` of bank_core"
-        self.assertEqual(list(checking.astray(text)), ["bank_core Leads"])
 
     def test_what_code_definitions_and_scripts_declare_is_known(self):
         code = "pub struct One {\n    pub two: u32,\n}\nenum Three {\n    Four,\n    Five(u32),\n}\npub fn six(a: u32)\n    ensures seven { a }\n"
@@ -204,13 +222,14 @@ class Versions(unittest.TestCase):
 
 
 class Crates(unittest.TestCase):
-    def test_each_crate_has_one_row(self):
-        rows = [line for line in checking.list_of_crates().splitlines() if line.startswith("- [")]
-        self.assertEqual(len(rows), len(checking.crates.listed()))
+    def test_each_crate_stands_in_its_layer(self):
+        rows = checking.list_of_crates().splitlines()
+        self.assertEqual(len(rows), len({it.layer for it in checking.crates.listed().values()}))
+        for crate in checking.crates.listed().values():
+            self.assertEqual([row.partition(" ")[0] for row in rows if f"[{crate.name}]({crate.name})" in row], [crate.layer.partition(" ")[0]])
 
-    def test_words_end_before_a_clause_of_its_own_but_where_a_list_stands(self):
-        self.assertEqual(checking.crates.named("trace_stream").in_short(), "Reads a trace row by row from any source")
-        self.assertTrue(checking.crates.named("bank_shape").in_short().endswith("and what its array lines are used for"))
+    def test_the_first_sentence_of_a_root_file_says_what_a_crate_is(self):
+        self.assertEqual(checking.crates.named("pcm_image").about().partition(":")[0], "The image of a module")
 
     def test_an_edge_upwards_is_named(self):
         self.assertEqual([it for it in checking.check_layers() if it], [])

@@ -1,7 +1,7 @@
 """The crates of crates.txt: the layer of each, what it stands on, and what its first lines say of it.
 
 A layer begins with a comment '# NUMBER. NAME'; behind it each line names a crate and the libraries that it stands on, its own
-repository's and the kit's."""
+repository's and the kit's. Called by itself it prints of each crate its layer, its name, and the first sentence of its root file."""
 import functools
 import itertools
 import pathlib
@@ -12,8 +12,6 @@ import typing
 TOP = pathlib.Path(__file__).resolve().parent.parent
 # What a crate's text is in.
 PARTS = ("src", "specs", "proofs")
-# What a clause of its own begins with, in a sentence.
-CLAUSE = "(?:and|or|as|by|in|of|over|told|whatever|which|whose|with) "
 
 
 class Crate(typing.NamedTuple):
@@ -42,15 +40,6 @@ class Crate(typing.NamedTuple):
         head = itertools.takewhile(lambda line: re.match(r"//! ?\S", line), lines)
         words = " ".join(line.removeprefix("//!").strip() for line in head)
         return re.split(r"(?<=\.)\s+(?=[A-Z`])", words)[0].removesuffix(".")
-
-    def in_short(self):
-        """What stands there before a colon, where that says enough: some words, and not those of another crate; and then before a comma
-        behind which a clause of its own begins, where there is none before it."""
-        head = self.about().partition(":")[0]
-        alone = sum(it.about().partition(":")[0] == head for it in listed().values()) == 1
-        words = head if alone and head.count(" ") >= 3 else self.about()
-        first = re.split(f", (?={CLAUSE})", words)[0]
-        return first if alone and first.count(" ") >= 5 and "," not in first else words
 
 
 @functools.cache
@@ -81,3 +70,9 @@ def below(name):
 def needed(name):
     """A crate and all crates that it stands on, through others too."""
     return frozenset({name}.union(*map(needed, below(name))))
+
+
+if __name__ == "__main__":
+    for heading, crates in itertools.groupby(listed().values(), key=lambda it: it.layer):
+        print(f"\n{heading}\n")
+        print("\n".join(f"{it.name}: {it.about()}" for it in crates))
