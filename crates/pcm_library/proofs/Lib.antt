@@ -1,0 +1,4 @@
+-- A table with one place more, and what keeps outcomes.
+mod Growing
+mod Keeping
+mod Sizes
