@@ -6,3 +6,8 @@ use Rattle.pcm_library.specs.declared.list.GhostList.{GhostList, Empty, Behind'}
 abbrev pub items : {A : Type 0} → GhostList A → List A
 items Empty = []
 items (Behind' shape before item) = items before ++ item.value ∷ []
+
+-- the items, the last of them first
+abbrev pub newest : {A : Type 0} → GhostList A → List A
+newest Empty = []
+newest (Behind' shape before item) = item.value ∷ newest before

@@ -1,62 +1,51 @@
 -- What contracts see of a keeper of outcomes.
-use Rattle.std.specs.Prelude.{◌≡◌, ℕ, ◌≤◌, Bool, false, List, [], ◌∷◌, ◌++◌, map}
-use Rattle.std.proofs.Common.{refl, sym, ap, ◌∙◌, append_assoc}
-use Rattle.std.proofs.lemmas.List.{append-nil}
-use Rattle.result_rows.specs.{Table.with_outcome, declared.Outcome.Outcome, declared.Outcome.TheVariants.Unset}
-use Rattle.pcm_library.specs.{declared.keeper.Kept.Kept, declared.keeper.Step.Step, declared.keeper.Step.TheVariants.{Row, Told}}
+use Rattle.std.specs.Prelude.{◌≡◌, ℕ, ◌≤◌, Bool, false, List, [], ◌∷◌, ◌++◌, Option, None}
+use Rattle.std.proofs.Common.{refl, sym, ap, ◌∙◌}
+use Rattle.result_rows.specs.declared.Outcome.{Outcome}
+use Rattle.row_printer.specs.{Printing.{Printing, PrintsOn}, Telling.{outcomes_in, TellsOnce}, declared.told.Told.Told}
+use Rattle.row_printer.specs.GoingOn as on
+use Rattle.pcm_library.specs.declared.keeper.Kept.{Kept}
 
--- what came to pass, in order, the outcomes that wait, and whether one was lost
-pub record Keeping (n : ℕ) : Type 0 where
-  pub past : List (Step n)
+-- the outcomes that were taken and those that wait, in order, and whether one was lost
+pub record Waiting (n : ℕ) : Type 0 where
+  pub taken : List (Kept n)
   pub waiting : List (Kept n)
   pub lost : Bool
 
+-- an outcome that is kept
+abbrev pub kept_of : {n : ℕ} → ℕ → Outcome n → Kept n
+kept_of row outcome = record { row = row; outcome = outcome }
+
+-- outcomes, each with its row
+abbrev pub kept_pairs : {n : ℕ} → List (Kept n) → List (ℕ × Outcome n)
+kept_pairs [] = []
+kept_pairs (kept ∷ more) = (kept.row, kept.outcome) ∷ kept_pairs more
+
+-- where none was lost, what was told is what was taken and behind it what waits
+abbrev pub IsToldTo : {n : ℕ} → List (Told n) → Waiting n → Type 0
+IsToldTo told sink = sink.lost ≡ false → outcomes_in told ≡ kept_pairs sink.taken ++ kept_pairs sink.waiting
+
+-- lines are short; each row was told once; and where no outcome was lost, what was told was taken or waits
+pub record IsKept {n : ℕ} (lost : Bool) (rows : ℕ) (told : List (Told n)) (taken waiting : List (Kept n)) : Type 0 where
+  pub few : n ≤ 128
+  pub once : TellsOnce rows (outcomes_in told)
+  pub whole : IsToldTo told (record { taken = taken; waiting = waiting; lost = lost })
+
+-- nothing is written where outcomes are kept, and no write fails
+abbrev pub unwritten : {n : ℕ} → Waiting n → Option (List ℕ)
+unwritten sink = None
+
+abbrev pub unfailing : {n : ℕ} → Waiting n → ℕ
+unfailing sink = 0
+
 module _ {n : ℕ} where
-  -- the table that this makes of one
-  abbrev pub played : List (Step n) → List (Outcome n) → List (Outcome n)
-  played [] table = table
-  played (Row ∷ past) table = played past (table ++ Unset ∷ [])
-  played (Told kept ∷ past) table = played past (with_outcome table kept.row kept.outcome)
+  -- one became the other by outcomes that it was told; none was taken
+  pub record KeepsOn (old new : Printing n (Waiting n)) : Type 0 where
+    pub prints : PrintsOn unwritten unfailing old new
+    pub taken : new.sink.taken ≡ old.sink.taken
 
-  -- the outcomes that were told, in order
-  abbrev pub told_in : List (Step n) → List (Kept n)
-  told_in [] = []
-  told_in (Row ∷ past) = told_in past
-  told_in (Told kept ∷ past) = kept ∷ told_in past
+  pub stands-on : (one : Printing n (Waiting n)) → KeepsOn one one
+  stands-on one = record { prints = on.stands-on unwritten unfailing one; taken = refl }
 
-  -- that these were told
-  abbrev pub tells : List (Kept n) → List (Step n)
-  tells [] = []
-  tells (kept ∷ more) = Told kept ∷ tells more
-
-  -- the table of the rows that came, with the outcomes that were told
-  abbrev pub table_kept : Keeping n → List (Outcome n)
-  table_kept k = played k.past []
-
-  -- lines are short; and where no outcome was lost, those that wait are the last of those that were told: the others were taken
-  pub record IsKept (lost : Bool) (past : List (Step n)) (waiting : List (Kept n)) : Type 0 where
-    pub few : n ≤ 128
-    pub whole : lost ≡ false → (taken : List (Kept n)) × (told_in past ≡ taken ++ waiting)
-
-  -- one became the other by outcomes that it was told: these wait behind those that waited, where none was lost
-  pub record KeepsOn (old new : Keeping n) : Type 0 where
-    pub added : List (Kept n)
-    pub past : new.past ≡ old.past ++ tells added
-    pub waiting : new.lost ≡ false → (old.lost ≡ false) × (new.waiting ≡ old.waiting ++ added)
-
-  tells-more : (xs ys : List (Kept n)) → tells (xs ++ ys) ≡ tells xs ++ tells ys
-  tells-more [] ys = refl
-  tells-more (x ∷ xs) ys = ap (λ t. Told x ∷ t) (tells-more xs ys)
-
-  pub stands-on : (one : Keeping n) → KeepsOn one one
-  stands-on one = record { added = []; past = sym (append-nil one.past); waiting = λ kept. (kept, sym (append-nil one.waiting)) }
-
-  pub follows-on : (one two three : Keeping n) → KeepsOn one two → KeepsOn two three → KeepsOn one three
-  follows-on one two three a b = record {
-    added = a.added ++ b.added;
-    past = b.past ∙ ap (λ t. t ++ tells b.added) a.past ∙ append_assoc one.past (tells a.added) (tells b.added) ∙ ap (λ t. one.past ++ t) (sym (tells-more a.added b.added));
-    waiting = λ kept.
-        let behind = b.waiting kept in
-        let before = a.waiting behind.0 in
-        (before.0, behind.1 ∙ ap (λ t. t ++ b.added) before.1 ∙ append_assoc one.waiting a.added b.added);
-  }
+  pub follows-on : (one two three : Printing n (Waiting n)) → KeepsOn one two → KeepsOn two three → KeepsOn one three
+  follows-on one two three a b = record { prints = on.follows-on unwritten unfailing one two three a.prints b.prints; taken = b.taken ∙ a.taken }

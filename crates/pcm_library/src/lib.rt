@@ -3,8 +3,9 @@
 
 mod keeper;
 mod list;
+mod serving;
 mod session;
 
-pub use keeper::{Keeper, Kept, Step};
+pub use keeper::{Keeper, Kept};
 pub use list::GhostList;
 pub use session::{Answer, Session};

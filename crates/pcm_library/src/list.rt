@@ -1,6 +1,6 @@
 // A list for contracts alone.
 ghost use Rattle.std.specs.Prelude.{◌≡◌, [], ◌∷◌, ◌++◌};
-ghost use Rattle.pcm_library.specs.Items.{items};
+ghost use Rattle.pcm_library.specs.Items.{items, newest};
 
 use std::snapshot::Snapshot;
 
@@ -15,14 +15,16 @@ pub enum GhostList<T> {
 impl<T> GhostList<T> {
     /// A list of nothing.
     pub fn new() -> GhostList<T>
-        ensures { items result ≡ [] }
+        ensures items { items result ≡ [] }
+        ensures newest { newest result ≡ [] }
     {
         GhostList::Empty
     }
 
     /// The list with one item more at its end.
     pub fn and(&self, item: &T) -> GhostList<T>
-        ensures { items result ≡ items self.now ++ item.now ∷ [] }
+        ensures items { items result ≡ items self.now ++ item.now ∷ [] }
+        ensures newest { newest result ≡ item.now ∷ newest self.now }
     {
         GhostList::Behind(Snapshot::of(self), Snapshot::of(item))
     }

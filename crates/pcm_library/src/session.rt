@@ -1,23 +1,27 @@
 // A module that another program calls.
-ghost use Rattle.std.specs.Prelude.{◌≡◌, ◌≢◌, ◌+◌, ◌≤◌, ◌<◌, ◌++◌, ◌∷◌, [], List, IfOk, IfSome, None, length, true, false, option_to_list};
+ghost use Rattle.std.specs.Prelude.{◌≡◌, ◌≢◌, ◌≤◌, ◌<◌, ◌++◌, [], ◌∷◌, IfOk, IfSome, None, length, true, false, option_to_list};
 ghost use Rattle.cell_rows.specs.Device.{IsWear};
 ghost use Rattle.ecp_line.specs.Layout.{IsLayout};
 ghost use Rattle.bank_shape.specs.declared.Home.TheVariants.{Array};
 ghost use Rattle.trace_reader.specs.Events.{IsEventFor, IsOpFor};
 ghost use Rattle.trace_reader.specs.Rows.{latest_tick};
-ghost use Rattle.module_shape.specs.Limits.{total_of};
-ghost use Rattle.module_laws.specs.Asking.{Asked};
-ghost use Rattle.pcm_module.specs.Asking.{asked_by};
-ghost use Rattle.pcm_library.specs.Keeping.{KeepsOn};
-ghost use Rattle.pcm_library.specs.Serving.{EndsRight, IsLedBy};
+ghost use Rattle.module_shape.specs.Limits.{IsShape, total_of};
+ghost use Rattle.trace_stream.specs.declared.asked.Asked.TheVariants.{Happens, Settle};
+ghost use Rattle.row_stream.specs.Serving.{ServesOn, told_so_far};
+ghost use Rattle.row_stream.specs.Ending.{IsLeft, told_along};
+ghost use Rattle.pcm_library.specs.Keeping.{IsToldTo};
+ghost use Rattle.pcm_library.specs.Serving.{HasDrained, HasServedRows};
 
 use crate::keeper::{Keeper, Kept};
+use crate::list::GhostList;
+use crate::serving::{drain, serve_event, serve_settle};
 use cell_rows::{CellArray, Wear};
 use module_shape::Shape;
 use pcm_module::Module;
 use std::alloc::{AllocError, Global};
 use std::marker::Model;
 use trace_reader::Event;
+use trace_stream::Asked;
 
 /// The last tick at which a row may come.
 const LAST_TICK: u64 = 1_099_511_627_776;
@@ -51,14 +55,15 @@ pub struct Session<const B: usize, const M: usize, const E: usize, A: CellArray<
     module: Module<B, M, E>,
     array: A,
     kept: Keeper<B>,
-    // How many rows came.
-    rows: u32,
     finished: bool,
+    // For contracts alone: one byte.
+    asked: GhostList<Asked<B>>,
 }
 
 impl<const B: usize, const M: usize, const E: usize, A: CellArray<B, M> + Drop> Model
     for Session<B, M, E, A>
 {
+    ghost use Rattle.pcm_library.specs.Items.{newest};
     ghost use Rattle.pcm_library.specs.Serving.{Serving, IsSession};
 
     ghost Value = { Serving B M E A };
@@ -67,10 +72,10 @@ impl<const B: usize, const M: usize, const E: usize, A: CellArray<B, M> + Drop> 
       module_ = s.module;
       array = s.array;
       kept = s.kept;
-      rows = s.rows;
+      asked = newest s.asked;
     } };
 
-    ghost invariant = { λ s. IsSession s.module (A.state s.array) s.kept s.rows s.finished };
+    ghost invariant = { λ s. IsSession s.module (A.state s.array) s.kept (newest s.asked) s.finished };
 }
 
 impl<const B: usize, const M: usize, const E: usize, A: CellArray<B, M> + Drop> Session<B, M, E, A> {
@@ -86,8 +91,8 @@ impl<const B: usize, const M: usize, const E: usize, A: CellArray<B, M> + Drop> 
         requires wide { shape.home ≡ Array → 16 ≤ B }
         requires wear { IsWear wear }
         ensures shape { IfOk result (λ s. (s.module_.shape ≡ shape) × (s.module_.seed ≡ seed)) }
-        ensures rows { IfOk result (λ s. (s.rows ≡ 0) × (s.kept.waiting ≡ [])) }
-        ensures led { IfOk result (λ s. IsLedBy s.module_ (A.state s.array) s.kept s.rows []) }
+        ensures waiting { IfOk result (λ s. (s.kept.sink.taken ≡ []) × (s.kept.sink.waiting ≡ [])) }
+        ensures asked { IfOk result (λ s. (s.asked ≡ []) × (s.module_.finished ≡ false)) }
     {
         let mut array = array;
         array.power_up(alloc, shape.array_lines(), wear)?;
@@ -97,8 +102,8 @@ impl<const B: usize, const M: usize, const E: usize, A: CellArray<B, M> + Drop> 
             module,
             array,
             kept,
-            rows: 0,
             finished: false,
+            asked: GhostList::new(),
         })
     }
 
@@ -123,13 +128,11 @@ impl<const B: usize, const M: usize, const E: usize, A: CellArray<B, M> + Drop> 
     /// A row comes, whose line is one of the module's.
     pub fn event(&mut self, event: &Event<B>) -> Answer
         requires op { IsOpFor (total_of self.old.module_.shape) event.now.op }
-        ensures led { result ≡ Answer.Done → (asked : List (Asked B))
-            → IsLedBy self.old.module_ (A.state self.old.array) self.old.kept self.old.rows asked
-            → IsLedBy self.new.module_ (A.state self.new.array) self.new.kept self.new.rows
-            (asked_by self.new.rows event.now ∷ asked) }
-        ensures shape { (self.new.module_.shape ≡ self.old.module_.shape)
-            × (self.new.module_.seed ≡ self.old.module_.seed) }
-        ensures rows { result ≡ Answer.Done → self.new.rows ≡ self.old.rows + 1 }
+        ensures asked { result ≡ Answer.Done → self.new.asked ≡ Happens event.now ∷ self.old.asked }
+        ensures serves { result ≡ Answer.Done → ServesOn (λ before. Happens event.now)
+            self.old.module_ self.new.module_ (A.state self.old.array) (A.state self.new.array)
+            self.old.kept self.new.kept }
+        ensures taken { self.new.kept.sink.taken ≡ self.old.kept.sink.taken }
         ensures rest { result ≢ Answer.Done → self.new ≡ self.old }
     {
         match self.may_come(event.tick) {
@@ -142,31 +145,28 @@ impl<const B: usize, const M: usize, const E: usize, A: CellArray<B, M> + Drop> 
     fn take(&mut self, event: &Event<B>) -> Answer
         requires going { self.old.module_.finished ≡ false }
         requires lawful { IsEventFor (total_of self.old.module_.shape) self.old.module_.tick event.now }
-        ensures led { result ≡ Answer.Done → (asked : List (Asked B))
-            → IsLedBy self.old.module_ (A.state self.old.array) self.old.kept self.old.rows asked
-            → IsLedBy self.new.module_ (A.state self.new.array) self.new.kept self.new.rows
-            (asked_by self.new.rows event.now ∷ asked) }
-        ensures shape { (self.new.module_.shape ≡ self.old.module_.shape)
-            × (self.new.module_.seed ≡ self.old.module_.seed) }
-        ensures rows { result ≡ Answer.Done → self.new.rows ≡ self.old.rows + 1 }
+        ensures asked { result ≡ Answer.Done → self.new.asked ≡ Happens event.now ∷ self.old.asked }
+        ensures serves { result ≡ Answer.Done → ServesOn (λ before. Happens event.now)
+            self.old.module_ self.new.module_ (A.state self.old.array) (A.state self.new.array)
+            self.old.kept self.new.kept }
+        ensures taken { self.new.kept.sink.taken ≡ self.old.kept.sink.taken }
         ensures rest { result ≢ Answer.Done → self.new ≡ self.old }
     {
-        if self.rows >= LAST_ROW {
+        if self.kept.rows() >= LAST_ROW {
             return Answer::TooMany;
         }
-        self.kept.add_row();
-        self.rows += 1;
-        self.module.event(&mut self.array, self.rows, event, &mut self.kept);
+        serve_event(&mut self.module, &mut self.array, event, &mut self.kept);
+        self.asked = self.asked.and(&Asked::Happens(*event));
         Answer::Done
     }
 
     /// Every bank is brought to a tick.
     pub fn settle(&mut self, tick: u64) -> Answer
-        ensures led { result ≡ Answer.Done → (asked : List (Asked B))
-            → IsLedBy self.old.module_ (A.state self.old.array) self.old.kept self.old.rows asked
-            → IsLedBy self.new.module_ (A.state self.new.array) self.new.kept self.new.rows asked }
-        ensures tick { result ≡ Answer.Done → self.new.module_.tick ≡ tick }
-        ensures rows { self.new.rows ≡ self.old.rows }
+        ensures asked { result ≡ Answer.Done → self.new.asked ≡ Settle tick ∷ self.old.asked }
+        ensures serves { result ≡ Answer.Done → ServesOn (λ before. Settle tick)
+            self.old.module_ self.new.module_ (A.state self.old.array) (A.state self.new.array)
+            self.old.kept self.new.kept }
+        ensures taken { self.new.kept.sink.taken ≡ self.old.kept.sink.taken }
         ensures rest { result ≢ Answer.Done → self.new ≡ self.old }
     {
         match self.may_come(tick) {
@@ -183,26 +183,34 @@ impl<const B: usize, const M: usize, const E: usize, A: CellArray<B, M> + Drop> 
         requires going { self.old.module_.finished ≡ false }
         requires rises { self.old.module_.tick ≤ tick }
         requires in_time { tick ≤ latest_tick }
-        ensures led { (asked : List (Asked B))
-            → IsLedBy self.old.module_ (A.state self.old.array) self.old.kept self.old.rows asked
-            → IsLedBy self.new.module_ (A.state self.new.array) self.new.kept self.new.rows asked }
-        ensures tick { self.new.module_.tick ≡ tick }
-        ensures rows { self.new.rows ≡ self.old.rows }
+        ensures asked { self.new.asked ≡ Settle tick ∷ self.old.asked }
+        ensures serves { ServesOn (λ before. Settle tick)
+            self.old.module_ self.new.module_ (A.state self.old.array) (A.state self.new.array)
+            self.old.kept self.new.kept }
+        ensures taken { self.new.kept.sink.taken ≡ self.old.kept.sink.taken }
     {
-        self.module.settle(&mut self.array, tick, &mut self.kept);
+        serve_settle(&mut self.module, &mut self.array, tick, &mut self.kept);
+        self.asked = self.asked.and(&Asked::Settle(tick));
     }
 
-    /// No more rows come: each bank is drained. What was told of all rows is a right run.
+    /// No more rows come: each bank is drained.
     pub fn finish(&mut self) -> Answer
-        ensures right { result ≡ Answer.Done → (asked : List (Asked B))
-            → IsLedBy self.old.module_ (A.state self.old.array) self.old.kept self.old.rows asked
-            → EndsRight self.new.module_ (A.state self.new.array) self.new.kept asked }
+        ensures finished { result ≡ Answer.Done → self.new.module_.finished ≡ true }
+        ensures asked { self.new.asked ≡ self.old.asked }
+        ensures ended { result ≡ Answer.Done
+            → (had : HasServedRows self.old.module_ (A.state self.old.array) self.old.kept
+            self.old.asked)
+            → (left : IsLeft self.old.module_.shape self.old.module_.seed false self.old.asked
+            self.new.module_ (A.state self.new.array)
+            self.new.kept.rows self.new.kept.told self.new.kept.prints self.new.kept.snapshots)
+            × (told_along left.0 ≡ told_so_far had) }
+        ensures taken { self.new.kept.sink.taken ≡ self.old.kept.sink.taken }
         ensures rest { result ≢ Answer.Done → self.new ≡ self.old }
     {
         if self.finished {
             return Answer::Ended;
         }
-        self.module.finish(&mut self.array, &mut self.kept);
+        drain(&mut self.module, &mut self.array, &mut self.kept);
         self.finished = true;
         Answer::Done
     }
@@ -211,25 +219,45 @@ impl<const B: usize, const M: usize, const E: usize, A: CellArray<B, M> + Drop> 
     pub fn next(&mut self) -> Option<Kept<B>>
         ensures module_ { self.new.module_ ≡ self.old.module_ }
         ensures array { self.new.array ≡ self.old.array }
-        ensures past { self.new.kept.past ≡ self.old.kept.past }
-        ensures waiting { self.old.kept.waiting ≡ option_to_list result ++ self.new.kept.waiting }
-        ensures rows { self.new.rows ≡ self.old.rows }
+        ensures asked { self.new.asked ≡ self.old.asked }
+        ensures told { self.new.kept.told ≡ self.old.kept.told }
+        ensures snapshots { self.new.kept.snapshots ≡ self.old.kept.snapshots }
+        ensures prints { self.new.kept.prints ≡ self.old.kept.prints }
+        ensures taken { self.new.kept.sink.taken
+            ≡ self.old.kept.sink.taken ++ option_to_list result }
+        ensures waiting { self.old.kept.sink.waiting
+            ≡ option_to_list result ++ self.new.kept.sink.waiting }
+        ensures lost { self.new.kept.sink.lost ≡ self.old.kept.sink.lost }
+        ensures rows { self.new.kept.rows ≡ self.old.kept.rows }
     {
         self.kept.next()
     }
 
+    /// All rows that were asked were served and told so, and what was told was taken or waits.
+    pub fn tells_all(&self)
+        ensures serving { self.now.module_.finished ≡ false → HasServedRows self.now.module_
+            (A.state self.now.array) self.now.kept self.now.asked }
+        ensures ended { self.now.module_.finished ≡ true → HasDrained self.now.module_
+            (A.state self.now.array) self.now.kept self.now.asked }
+        ensures told { IsToldTo self.now.kept.told self.now.kept.sink }
+        ensures shape { IsShape self.now.module_.shape }
+    {
+        let _ = self.module.shape();
+        self.kept.tells_once();
+    }
+
     /// How many outcomes wait.
     pub fn waiting(&self) -> usize
-        ensures { result ≡ length self.now.kept.waiting }
+        ensures { result ≡ length self.now.kept.sink.waiting }
     {
         self.kept.waiting()
     }
 
     /// How many rows came.
     pub fn rows(&self) -> u32
-        ensures { result ≡ self.now.rows }
+        ensures { result ≡ self.now.kept.rows }
     {
-        self.rows
+        self.kept.rows()
     }
 
     /// How many lines the module has.

@@ -1,21 +1,21 @@
-use Rattle.std.proofs.Common.{◌≡◌, ◌+◌, ◌≤◌, true, false, sym, ◌∙◌, arith}
+use Rattle.std.proofs.Common.{true, false, sym}
 use Rattle.std.proofs.lemmas.Bool.{false≢true}
+use Rattle.pcm_library.{specs.Items.newest, proofs.Beginning.own-ended}
 use Rattle.pcm_library.proofs.session.Session.finish.Goals as goal
 
-pub finish-requires : goal.finish-requires
-finish-requires g c =
-    (omega arith, (c.self.invariant.going ∙ c.if-self.false, c.self.invariant.replayed c.if-self.false))
+pub drain-requires : goal.drain-requires
+drain-requires g c = ?
 
 pub invariant_of-self : goal.invariant_of-self
 invariant_of-self g c =
-    let e = c.finish.ensures in
+    let inside = c.self.inside in
+    let asked = newest inside.asked in
+    let out = c.drain.new.out in
+    let array = g.A.CellArray.state c.drain.new.array in
+    let left = c.drain.ensures.ended inside.module.shape inside.module.seed asked (c.self.invariant.serving c.if-self.false) in
     record {
       layout = c.self.invariant.layout;
-      going = e.finished;
-      counted = e.table ∙ c.self.invariant.counted;
-      bound = λ on. absurd (false≢true (sym on));
-      replayed = λ on. absurd (false≢true (sym on));
+      going = c.drain.ensures.finished;
+      serving = λ on. absurd (false≢true (sym on));
+      ended = λ is. own-ended inside.module.shape inside.module.seed asked c.drain.new.pcm array out.rows out.told left.0.0;
     }
-
-pub returns-clause-right : goal.returns-clause-right
-returns-clause-right g c = rw (← c.self.view_is) (λ done asked led. c.finish.ensures.right led.0 asked led.1)

@@ -1,27 +1,24 @@
-use Rattle.std.proofs.Common.{◌≡◌, ◌++◌, ◌≤◌, sym, ◌∙◌, arith}
+use Rattle.std.proofs.Common.{◌∷◌, sym, ◌∙◌}
+use Rattle.std.proofs.lemmas.Bool.{false≢true}
+use Rattle.trace_stream.specs.declared.asked.Asked.TheVariants.{Settle}
+use Rattle.pcm_library.{specs.Items.newest, proofs.Beginning.own-serving}
 use Rattle.pcm_library.proofs.session.Session.settle_at.Goals as goal
 
-pub settle-requires : goal.settle-requires
-settle-requires g c =
-    let going = rw (← c.self.view_is) at c.requires.going in
-    let rises = rw (← c.self.view_is) at c.requires.rises in
-    (omega arith, (going, (c.self.invariant.replayed (sym c.self.invariant.going ∙ going), (rises, c.requires.in_time))))
+pub serve_settle-requires : goal.serve_settle-requires
+serve_settle-requires g c = ?
 
 pub invariant_of-self : goal.invariant_of-self
 invariant_of-self g c =
-    let e = c.settle.ensures in
+    let inside = c.self.inside in
     let going = rw (← c.self.view_is) at c.requires.going in
-    let had = c.self.invariant.replayed (sym c.self.invariant.going ∙ going) in
-    let more = e.replays had.0 had.1 had.2 in
-    record {
+    let off = sym c.self.invariant.going ∙ going in
+    let asked = newest inside.asked in
+    let out = c.serve_settle.new.out in
+    let array = g.A.CellArray.state c.serve_settle.new.array in
+    let serves = c.serve_settle.ensures.serves.serving inside.module.shape inside.module.seed asked (c.self.invariant.serving off) in
+    rw c.and.ensures.newest (record {
       layout = c.self.invariant.layout;
-      going = e.going ∙ sym going ∙ c.self.invariant.going;
-      counted = e.table ∙ c.self.invariant.counted;
-      bound = λ on. let before = c.self.invariant.bound on in omega (arith, e.rows, before);
-      replayed = λ on. ((λ bank. more.0 bank ++ had.0 bank), had.1, more.1);
-    }
-
-pub returns-clause-led : goal.returns-clause-led
-returns-clause-led g c = rw (← c.self.view_is) (λ asked led.
-    let more = c.settle.ensures.replays led.0 asked led.1 in
-    ((λ bank. more.0 bank ++ led.0 bank), more.1))
+      going = c.serve_settle.ensures.going ∙ sym off;
+      serving = λ on. own-serving inside.module.shape inside.module.seed (Settle c.args.tick ∷ asked) c.serve_settle.new.pcm array out.rows out.told out.prints out.snapshots serves.0;
+      ended = λ is. absurd (false≢true (sym off ∙ is));
+    })
