@@ -44,3 +44,8 @@ module _ {n : ℕ} where
   pub kept-for : {m e : ℕ} (module_ : ModuleState n m e) (row : ℕ) (asks : Asks n) (old new : Printing n (Waiting n)) → TellsFor KeepsOn table_told module_ row asks old new
       → TellsFor (PrintsOn unwritten unfailing) table_told module_ row asks old new
   kept-for module_ row asks old new had = for-so KeepsOn (PrintsOn unwritten unfailing) (λ one two on. on.prints) table_told module_ row asks old new had
+
+-- the first that waits is the last that is taken
+pub pairs-shift : {n : ℕ} (taken : List (Kept n)) (one : Kept n) (rest : List (Kept n)) → kept_pairs taken ++ kept_pairs (one ∷ rest) ≡ kept_pairs (taken ++ one ∷ []) ++ kept_pairs rest
+pairs-shift [] one rest = refl
+pairs-shift {n} (x ∷ taken) one rest = ap (λ (t : List (ℕ × Outcome n)). (x.row, x.outcome) ∷ t) (pairs-shift taken one rest)

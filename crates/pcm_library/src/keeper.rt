@@ -37,6 +37,7 @@ pub struct Keeper<const B: usize> {
 }
 
 impl<const B: usize> Model for Keeper<B> {
+    ghost use Rattle.std.specs.Prelude.{[], false};
     ghost use Rattle.row_printer.specs.Printing.{Printing};
     ghost use Rattle.row_printer.specs.declared.told.Shown.TheVariants.{Nothing};
     ghost use Rattle.pcm_io.specs.Reserved.{reserved};

@@ -1,12 +1,12 @@
 use Rattle.std.proofs.Common.{List, ℕ, [], ◌∷◌, ◌++◌, ◌∙◌, ap, sym, append_assoc, refl}
-use Rattle.result_rows.specs.declared.Outcome.{Outcome}
+use Rattle.result_rows.{specs.declared.Outcome.Outcome, proofs.Sizes.outcome_fits}
 use Rattle.row_printer.{specs.Telling.outcomes_in, proofs.Telling.outcomes-more}
 use Rattle.pcm_library.{specs.Items.items, specs.Keeping.{kept_of, kept_pairs}, proofs.Keeping.{pairs-more, table-set, tells-next}, proofs.Sizes.kept_fits}
 use Rattle.pcm_library.specs.declared.keeper.Kept.{Kept}
 use Rattle.pcm_library.proofs.keeper.KeeperOutcomes.set.Goals as goal
 
 pub push-had_room-requires : goal.push-had_room-requires
-push-had_room-requires g c = (kept_fits g.row.B c.self.invariant.few, c.self.invariant.few)
+push-had_room-requires g c = (kept_fits g.row.B c.self.invariant.few, (outcome_fits g.row.B c.self.invariant.few, c.self.invariant.few))
 
 pub invariant_of-self : goal.invariant_of-self
 invariant_of-self g c =
