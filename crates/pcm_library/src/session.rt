@@ -98,12 +98,13 @@ impl<const B: usize, const M: usize, const E: usize, A: CellArray<B, M> + Drop> 
         array.power_up(alloc, shape.array_lines(), wear)?;
         let module = Module::new(alloc, shape, seed)?;
         let kept = Keeper::new(alloc, ROOM)?;
+        let asked = GhostList::new();
         Ok(Session {
             module,
             array,
             kept,
             finished: false,
-            asked: GhostList::new(),
+            asked,
         })
     }
 

@@ -16,7 +16,7 @@ invariant_of-result g c =
     let array = g.A.CellArray.state c.power_up.new.self in
     let Fresh : ℕ → Type 0 = λ lines. IsFresh lines c.args.wear array in
     let fresh = subst Fresh c.array_lines.ensures.number c.in_ok-power_up.ensures.ok in
-    rw c.new.ensures.newest (record {
+    rw c.new-asked.ensures.newest (record {
       layout = c.requires.layout;
       going = made.4;
       serving = λ going.
