@@ -1,5 +1,7 @@
-use Rattle.std.proofs.Common.{true, false, sym, arith}
+use Rattle.std.proofs.Common.{◌≡◌, true, false, sym, subst, arith}
 use Rattle.std.proofs.lemmas.Bool.{false≢true}
+use Rattle.row_stream.specs.{Ending.{IsLeft, told_along}, Serving.told_so_far}
+use Rattle.pcm_library.specs.Serving.{HasServedRows, Serving}
 use Rattle.pcm_library.{specs.Items.newest, proofs.Beginning.own-ended}
 use Rattle.pcm_library.proofs.session.Session.finish.Goals as goal
 
@@ -23,4 +25,11 @@ invariant_of-self g c =
     }
 
 pub returns-clause-ended : goal.returns-clause-ended
-returns-clause-ended g c = rw (← c.self.view_is) (λ done had. c.drain.ensures.ended c.self.inside.module.shape c.self.inside.module.seed (newest c.self.inside.asked) had)
+returns-clause-ended g c =
+    let inside = c.self.inside in
+    let out = c.drain.new.out in
+    let array = g.A.CellArray.state c.drain.new.array in
+    let P : Serving g.row.B g.row.M g.row.E g.row.A.Denot → Type 0 = λ s.
+    (had : HasServedRows s.module_ (g.A.CellArray.state s.array) s.kept s.asked)
+    → (left : IsLeft s.module_.shape s.module_.seed false s.asked c.drain.new.pcm array out.rows out.told out.prints out.snapshots) × (told_along left.0 ≡ told_so_far had) in
+    λ done. subst P c.self.view_is (λ had. c.drain.ensures.ended inside.module.shape inside.module.seed (newest inside.asked) had)
