@@ -5,6 +5,7 @@ mod keeper;
 mod list;
 mod serving;
 mod session;
+mod waiting;
 
 pub use keeper::{Keeper, Kept};
 pub use list::GhostList;

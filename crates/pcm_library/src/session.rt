@@ -6,7 +6,7 @@ ghost use Rattle.bank_shape.specs.declared.Home.TheVariants.{Array};
 ghost use Rattle.trace_reader.specs.Events.{IsEventFor, IsOpFor};
 ghost use Rattle.trace_reader.specs.Rows.{latest_tick};
 ghost use Rattle.module_shape.specs.Limits.{IsShape, total_of};
-ghost use Rattle.trace_stream.specs.declared.asked.Asked.TheVariants.{Happens, Settle};
+ghost use Rattle.trace_stream.specs.declared.asked.Asked.TheVariants.{Happens, Settle, Until as Waits};
 ghost use Rattle.row_stream.specs.Serving.{ServesOn, told_so_far};
 ghost use Rattle.row_stream.specs.Ending.{IsLeft, told_along};
 ghost use Rattle.pcm_library.specs.Keeping.{IsToldTo};
@@ -15,13 +15,14 @@ ghost use Rattle.pcm_library.specs.Serving.{HasDrained, HasServedRows};
 use crate::keeper::{Keeper, Kept};
 use crate::list::GhostList;
 use crate::serving::{drain, serve_event, serve_settle};
+use crate::waiting::serve_until;
 use cell_rows::{CellArray, Wear};
 use module_shape::Shape;
 use pcm_module::Module;
 use std::alloc::{AllocError, Global};
 use std::marker::Model;
 use trace_reader::Event;
-use trace_stream::Asked;
+use trace_stream::{Asked, Until};
 
 /// The last tick at which a row may come.
 const LAST_TICK: u64 = 1_099_511_627_776;
@@ -47,6 +48,8 @@ pub enum Answer {
     Ended,
     /// An outcome was lost, since there was no memory for it.
     Lost,
+    /// No such row came.
+    NoRow,
 }
 
 /// A module over its array, and what became of the rows that came and wasn't taken yet.
@@ -192,6 +195,85 @@ impl<const B: usize, const M: usize, const E: usize, A: CellArray<B, M> + Drop> 
     {
         serve_settle(&mut self.module, &mut self.array, tick, &mut self.kept);
         self.asked = self.asked.and(&Asked::Settle(tick));
+    }
+
+    // Whether a row of this number came.
+    fn has_row(&self, row: u32) -> bool
+        ensures { result ≡ true → (1 ≤ row) × (row ≤ self.now.kept.rows) }
+    {
+        if row == 0 {
+            return false;
+        }
+        row <= self.kept.rows()
+    }
+
+    /// Every bank goes on until a row has its outcome, at most to a tick: `tick` tells how far they came.
+    pub fn settle_until(&mut self, row: u32, limit: u64) -> Answer
+        ensures asked { result ≡ Answer.Done → self.new.asked ≡ Waits (record {
+          row = row;
+          limit = limit;
+          reached = self.new.module_.tick;
+        }) ∷ self.old.asked }
+        ensures serves { result ≡ Answer.Done → ServesOn (λ before. Waits (record {
+          row = row;
+          limit = limit;
+          reached = self.new.module_.tick;
+        })) self.old.module_ self.new.module_ (A.state self.old.array) (A.state self.new.array)
+            self.old.kept self.new.kept }
+        ensures taken { self.new.kept.sink.taken ≡ self.old.kept.sink.taken }
+        ensures rest { result ≢ Answer.Done → self.new ≡ self.old }
+    {
+        if !self.has_row(row) {
+            return Answer::NoRow;
+        }
+        match self.may_come(limit) {
+            None => {
+                self.wait_for(row, limit);
+                Answer::Done
+            }
+            Some(refused) => refused,
+        }
+    }
+
+    // Every bank goes on until a row has its outcome, at most to a tick to which the module may come.
+    fn wait_for(&mut self, row: u32, limit: u64)
+        requires going { self.old.module_.finished ≡ false }
+        requires rises { self.old.module_.tick ≤ limit }
+        requires in_time { limit ≤ latest_tick }
+        requires named { (1 ≤ row) × (row ≤ self.old.kept.rows) }
+        ensures asked { self.new.asked ≡ Waits (record {
+          row = row;
+          limit = limit;
+          reached = self.new.module_.tick;
+        }) ∷ self.old.asked }
+        ensures serves { ServesOn (λ before. Waits (record {
+          row = row;
+          limit = limit;
+          reached = self.new.module_.tick;
+        })) self.old.module_ self.new.module_ (A.state self.old.array) (A.state self.new.array)
+            self.old.kept self.new.kept }
+        ensures taken { self.new.kept.sink.taken ≡ self.old.kept.sink.taken }
+    {
+        let until = Until {
+            row,
+            limit,
+            reached: limit,
+        };
+        serve_until(&mut self.module, &mut self.array, &until, &mut self.kept);
+        let reached = self.module.tick();
+        let waited = Until {
+            row,
+            limit,
+            reached,
+        };
+        self.asked = self.asked.and(&Asked::Until(waited));
+    }
+
+    /// The tick that was reached.
+    pub fn tick(&self) -> u64
+        ensures { result ≡ self.now.module_.tick }
+    {
+        self.module.tick()
     }
 
     /// No more rows come: each bank is drained.
