@@ -3,6 +3,7 @@
 
 mod keeper;
 mod list;
+mod looking;
 mod serving;
 mod session;
 mod waiting;

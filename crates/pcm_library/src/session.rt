@@ -7,6 +7,8 @@ ghost use Rattle.trace_reader.specs.Events.{IsEventFor, IsOpFor};
 ghost use Rattle.trace_reader.specs.Rows.{latest_tick};
 ghost use Rattle.module_shape.specs.Limits.{IsShape, total_of};
 ghost use Rattle.trace_stream.specs.declared.asked.Asked.TheVariants.{Happens, Settle, Until as Waits};
+ghost use Rattle.pcm_module.specs.State.{bank_at};
+ghost use Rattle.row_stream.specs.Answering.{backlog_of};
 ghost use Rattle.row_stream.specs.Serving.{ServesOn, told_so_far};
 ghost use Rattle.row_stream.specs.Ending.{IsLeft, told_along};
 ghost use Rattle.pcm_library.specs.Keeping.{IsToldTo};
@@ -14,11 +16,13 @@ ghost use Rattle.pcm_library.specs.Serving.{HasDrained, HasServedRows};
 
 use crate::keeper::{Keeper, Kept};
 use crate::list::GhostList;
+use crate::looking::look_at;
 use crate::serving::{drain, serve_event, serve_settle};
 use crate::waiting::serve_until;
 use cell_rows::{CellArray, Wear};
 use module_shape::Shape;
 use pcm_module::Module;
+use row_printer::Backlog;
 use std::alloc::{AllocError, Global};
 use std::marker::Model;
 use trace_reader::Event;
@@ -274,6 +278,18 @@ impl<const B: usize, const M: usize, const E: usize, A: CellArray<B, M> + Drop> 
         ensures { result ≡ self.now.module_.tick }
     {
         self.module.tick()
+    }
+
+    /// What waits in a bank, where there is such a bank.
+    pub fn waits(&self, bank: u32) -> Option<Backlog>
+        ensures some { IfSome result (λ backlog.
+            backlog ≡ backlog_of bank (bank_at self.now.module_ bank)) }
+        ensures none { result ≡ None → self.now.module_.shape.banks ≤ bank }
+    {
+        if bank >= self.module.shape().banks() {
+            return None;
+        }
+        Some(look_at(&self.module, bank))
     }
 
     /// No more rows come: each bank is drained.
