@@ -3,6 +3,8 @@ pub mod Telling
 pub mod Once
 pub mod Counted
 pub mod Growing
+mod Printed
+mod Keeping
 mod Rows
 mod Pieces
 mod Refused

@@ -2,6 +2,7 @@
 pub mod Telling
 pub mod Snapshots
 pub mod Refusing
+pub mod Sending
 pub mod Printing
 pub mod GoingOn
 pub mod Items

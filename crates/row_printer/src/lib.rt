@@ -2,6 +2,7 @@
 #![tactic(auto)]
 
 mod list;
+mod output;
 mod printer;
 mod snapshot;
 mod text;

@@ -1,23 +1,10 @@
-use Rattle.std.proofs.Common.{refl}
-use Rattle.row_printer.proofs.Rows.{more-breaks, more-goes, snapshots-broken, snapshots-more}
+use Rattle.std.proofs.Common.{ap}
+use Rattle.row_printer.specs.{Sending.sent_of, Snapshots.snapshot_line}
+use Rattle.row_printer.proofs.Printed.{adds-put}
 use Rattle.row_printer.proofs.printer.print_one.Goals as goal
 
-pub returns-then-broken-clause-printed : goal.returns-then-broken-clause-printed
-returns-then-broken-clause-printed g c = λ n before first told snapshots h.
-    snapshots-broken told snapshots c.args.snapshot.now before first c.args.prints (g.S.Sink.written c.args.sink.now) (g.S.Sink.faults c.args.sink.now) c.args.text.now (rw c.if-broken.true at h)
-
-pub returns-in-Ok-clause-printed : goal.returns-in-Ok-clause-printed
-returns-in-Ok-clause-printed g c = λ n before first told snapshots h.
-    let on = c.in-Snapshots.is in
-    let was = rw (c.if-broken.false, on) at h in
-    rw (c.print_snapshot.ensures, on)
-    (more-goes before first _ _ _ (snapshots-more told snapshots c.args.snapshot.now c.in-Snapshots.field-0) (g.S.Sink.written c.args.sink.now) (g.S.Sink.written c.make_room.new.out) (g.S.Sink.faults c.args.sink.now) (g.S.Sink.faults c.make_room.new.out)
-    c.args.text.now c.make_room.new.text was (c.in-Ok.ensures.printed before _ (was.printed refl)) c.make_room.ensures.never_falls)
-
-pub returns-in-Err-clause-printed : goal.returns-in-Err-clause-printed
-returns-in-Err-clause-printed g c = λ n before first told snapshots h.
-    let on = c.in-Snapshots.is in
-    let was = rw (c.if-broken.false, on) at h in
-    rw on
-    (more-breaks before first _ _ _ (snapshots-more told snapshots c.args.snapshot.now c.in-Snapshots.field-0) (g.S.Sink.written c.args.sink.now) (g.S.Sink.written c.make_room.new.out) (g.S.Sink.faults c.args.sink.now) (g.S.Sink.faults c.make_room.new.out)
-    c.args.text.now c.make_room.new.text was (c.in-Err.ensures.part before _ (was.printed refl)) c.in-Err.ensures.fault c.make_room.ensures.never_falls)
+pub returns : goal.returns
+returns g c =
+    rw c.in-Snapshots.is
+    (adds-put g.S.Sink.written g.S.Sink.faults (sent_of c.args.out.now) (sent_of c.make_room.new.self) _ (snapshot_line c.args.snapshot.now) c.make_room.ensures.adds
+    (ap (λ t. record (sent_of c.make_room.new.self) { text = t }) c.print_snapshot.ensures))

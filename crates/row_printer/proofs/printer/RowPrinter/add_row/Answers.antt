@@ -1,14 +1,8 @@
-use Rattle.row_printer.{specs.Items.items, proofs.Growing.{once-wider, table-longer, counted-longer}}
+use Rattle.row_printer.{specs.Items.items, proofs.Growing.table-longer, proofs.Keeping.kept-row}
 use Rattle.row_printer.proofs.printer.RowPrinter.add_row.Goals as goal
 
 pub invariant_of-self : goal.invariant_of-self
-invariant_of-self g c = record {
-  few = c.self.invariant.few;
-  shown = c.self.invariant.shown;
-  limit = c.self.invariant.limit;
-  once = once-wider c.self.inside.rows _ c.self.invariant.once;
-  counted = counted-longer c.self.inside.rows (items c.self.inside.told) c.self.inside.counts c.self.invariant.once c.self.invariant.counted;
-}
+invariant_of-self g c = kept-row g.S.Sink.written g.S.Sink.faults _ _ _ c.self.invariant
 
 pub returns-clause-table : goal.returns-clause-table
 returns-clause-table g c = rw (← c.self.view_is) (table-longer c.self.inside.rows (items c.self.inside.told) c.self.invariant.once)

@@ -1,15 +1,10 @@
-use Rattle.row_printer.specs.{Items.items, Printing.stream_text}
+use Rattle.row_printer.proofs.Keeping.{kept-flushed, kept-same}
 use Rattle.row_printer.proofs.printer.RowPrinter.flush.Goals as goal
 
-pub returns-then-self-clause-printing : goal.returns-then-self-clause-printing
-returns-then-self-clause-printing g c = rw (← c.self.view_is) (λ before first h. c.print_all-self-inside.ensures.printed before first _ (rw c.deref_mut.ensures.value h))
+pub invariant_of-self : goal.invariant_of-self
+invariant_of-self g c = kept-same g.S.Sink.written g.S.Sink.faults _ _ _ c.self.invariant _ c.flush.ensures.adds
 
-pub returns-then-self-clause-err : goal.returns-then-self-clause-err
-returns-then-self-clause-err g c =
+pub returns : goal.returns
+returns g c =
     rw (← c.self.view_is)
-    (λ before first h.
-    let p = c.print_all-self-inside.ensures.printed before first (stream_text c.self.inside.prints (items c.self.inside.told) (items c.self.inside.snapshots)) (rw c.deref_mut.ensures.value h) in
-    (p.part c.if-self.true, p.fault c.if-self.true))
-
-pub returns-clause-printing : goal.returns-clause-printing
-returns-clause-printing g c = rw (← c.self.view_is) (λ before first h. c.print_all-self-inside.ensures.printed before first _ (rw c.deref_mut.ensures.value h))
+    (kept-flushed g.S.Sink.written g.S.Sink.faults _ _ _ c.self.invariant _ c.is_written.result c.flush.ensures.adds c.flush.ensures.text c.is_written.ensures.ok c.is_written.ensures.err)

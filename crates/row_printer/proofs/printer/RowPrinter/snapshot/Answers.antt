@@ -1,7 +1,9 @@
-use Rattle.row_printer.specs.Items.{items}
+use Rattle.std.proofs.Common.{refl}
+use Rattle.row_printer.proofs.Keeping.{kept-snapshot}
 use Rattle.row_printer.proofs.printer.RowPrinter.snapshot.Goals as goal
 
-pub returns-clause-printing : goal.returns-clause-printing
-returns-clause-printing g c =
-    rw (c.and.ensures, ← c.self.view_is)
-    (λ before first h. c.print_one-self-inside.ensures.printed g.row.B before first (items c.self.inside.told) (items c.self.inside.snapshots) (rw c.deref_mut.ensures.value h))
+pub invariant_of-self : goal.invariant_of-self
+invariant_of-self g c = rw c.and.ensures (kept-snapshot g.S.Sink.written g.S.Sink.faults _ _ _ c.self.invariant _ c.args.snapshot.now c.print_one.ensures)
+
+pub returns : goal.returns
+returns g c = rw (c.and.ensures, ← c.self.view_is) (record { began = c.print_one.ensures.began; account = refl })
