@@ -1,11 +1,28 @@
 -- What a printer's invariant says once it was told more.
-use Rattle.std.proofs.Common.{◌≡◌, ℕ, List, [], ◌∷◌, ◌++◌, Option, true, false, refl, ap, ◌∙◌}
+use Rattle.std.proofs.Common.{◌≡◌, ℕ, ◌≤◌, List, [], ◌∷◌, ◌++◌, Option, true, false, refl, ap, ◌∙◌, arith}
 use Rattle.std.{specs.Prelude.{Result, Ok, Err, OnOk, OnErr}, proofs.lemmas.List.append-nil}
-use Rattle.pcm_io.specs.Reserved.{reserved}
+use Rattle.pcm_io.{specs.Reserved.reserved, proofs.ByteLemmas.Appends-nothing}
 use Rattle.run_text.specs.{Counting.counts_of, declared.counts.Counts.Counts}
-use Rattle.row_printer.specs.{Printing.{Account, Flushes, IsKept, line_shown, snapshot_shown, table_told, text_told, with_line, with_row, with_snapshot}, Sending.{Adds, Sent}}
-use Rattle.row_printer.specs.{Telling.{outcomes_in, TellsOnce}, declared.snapshot.Snapshot.Snapshot, declared.told.Told.Told}
+use Rattle.row_printer.specs.{Printing.{Account, Flushes, begun_with, IsKept, line_shown, snapshot_shown, table_told, text_told, with_line, with_row, with_snapshot}, Sending.{Adds, Sent}}
+use Rattle.row_printer.specs.{Snapshots.IsShown, Telling.{outcomes_in, TellsOnce}, declared.snapshot.Snapshot.Snapshot, declared.told.Shown.Shown, declared.told.Told.Told}
 use Rattle.row_printer.proofs.{Growing.{once-wider, counted-longer}, Printed.{all-sent, holds-same, line-more, snapshot-more}, Telling.outcomes-same}
+
+-- at first
+pub kept-new : {n : ℕ} {S : Type 0} (written : S → Option (List ℕ)) (faults : S → ℕ) (sink : S) (prints : Shown) → n ≤ 128 → IsShown prints
+    → IsKept written faults (begun_with {n = n} sink prints).out (begun_with {n = n} sink prints).account (counts_of {n = n} [])
+kept-new {n} written faults sink prints few shown = record {
+  few = few;
+  shown = shown;
+  limit = refl;
+  printed = record {
+    sent = λ none. ([], Appends-nothing (written sink), refl);
+    part = λ some. absurd (cc some);
+    fault = λ some. absurd (cc some);
+    never_falls = omega arith;
+  };
+  once = tt;
+  counted = refl;
+}
 
 module _ {n : ℕ} {S : Type 0} (written : S → Option (List ℕ)) (faults : S → ℕ) (out : Sent S) (a : Account n) (counts : Counts) (kept : IsKept written faults out a counts) where
   pub kept-row : IsKept written faults out (with_row a) counts

@@ -8,3 +8,4 @@ mod Keeping
 mod Rows
 mod Pieces
 mod Refused
+mod Before

@@ -112,5 +112,6 @@ module _ {n : ℕ} {S : Type 0} (written : S → Option (List ℕ)) (faults : S 
   pub record Ends (p : Printing n S) (out : S) (rest : Reserved) : Type 0 where
     pub sink : out ≡ p.out.sink
     pub text : rest ≡ p.out.text
+    pub limit : rest.limit ≡ TEXT_ROOM
     pub printed : Holds written faults p.out (text_told p.account)
     pub once : TellsOnce p.account.rows (outcomes_in p.account.told)

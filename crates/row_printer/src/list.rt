@@ -20,10 +20,11 @@ impl<T> GhostList<T> {
         GhostList::Empty
     }
 
-    /// The list with one item more at its end.
-    pub fn and(&self, item: &T) -> GhostList<T>
-        ensures { items result ≡ items self.now ++ item.now ∷ [] }
+    /// One item more stands at its end.
+    pub fn push(&mut self, item: &T)
+        ensures { items self.new ≡ items self.old ++ item.now ∷ [] }
     {
-        GhostList::Behind(Snapshot::of(self), Snapshot::of(item))
+        let before = Snapshot::of(&*self);
+        *self = GhostList::Behind(before, Snapshot::of(item));
     }
 }

@@ -104,7 +104,7 @@ impl<const B: usize, S: Sink + Drop> RowPrinter<B, S> {
         ensures { Tells self.old self.new (with_line self.old.account line.now) }
     {
         print_line(line, self.prints, &mut self.out);
-        self.told = self.told.and(line);
+        self.told.push(line);
     }
 
     /// Whether a snapshot is to stand behind the rows that came.
@@ -132,7 +132,7 @@ impl<const B: usize, S: Sink + Drop> RowPrinter<B, S> {
         ensures { Tells self.old self.new (with_snapshot self.old.account snapshot.now) }
     {
         print_one(snapshot, self.prints, &mut self.out);
-        self.snapshots = self.snapshots.and(snapshot);
+        self.snapshots.push(snapshot);
     }
 
     /// Writes what is gathered: all that was told is written then, unless a write fails now or failed before.
@@ -219,7 +219,7 @@ impl<const B: usize, S: Sink + Drop> Outcomes<B> for RowPrinter<B, S> {
         let line = Told::Became(row, outcome);
         print_line(&line, self.prints, &mut self.out);
         self.counts.count(&outcome);
-        self.told = self.told.and(&line);
+        self.told.push(&line);
     }
 }
 

@@ -13,15 +13,15 @@ invariant_of-self g c =
     let exists = rw (← c.self.view_is) at c.requires.exists in
     let unset = rw (← c.self.view_is) at c.requires.unset in
     let told = items c.self.inside.told in
-    rw c.and.ensures
+    rw c.push.ensures
     (kept-line g.S.Sink.written g.S.Sink.faults _ _ _ c.self.invariant _ (Became c.args.row c.args.outcome) c.count.new.self c.print_line.ensures
     (rw (outcomes-more told c.args.row c.args.outcome) (tells-next c.self.inside.rows (outcomes_in told) c.args.row c.args.outcome c.self.invariant.once exists unset c.requires.told))
     (set-counted c.self.inside.rows told c.args.row c.args.outcome c.self.inside.counts c.count.new.self c.self.invariant.counted c.count.ensures unset))
 
 pub returns-clause-table : goal.returns-clause-table
-returns-clause-table g c = rw (c.and.ensures, ← c.self.view_is) (table-set c.self.inside.rows (items c.self.inside.told) c.args.row c.args.outcome)
+returns-clause-table g c = rw (c.push.ensures, ← c.self.view_is) (table-set c.self.inside.rows (items c.self.inside.told) c.args.row c.args.outcome)
 
 pub returns-clause-goes_on : goal.returns-clause-goes_on
 returns-clause-goes_on g c =
-    rw (c.and.ensures, ← c.self.view_is)
+    rw (c.push.ensures, ← c.self.view_is)
     (record { added = (c.args.row, c.args.outcome) ∷ []; tells = record { began = c.print_line.ensures.began; account = refl } })
