@@ -62,8 +62,8 @@ class Asked:
     @property
     def shape(self) -> Shape:
         """The sizes of the module."""
-        sizes = [int(self.value(name)) for name in ("banks", "regions", "lines", "spares")]
-        return Shape(*sizes, self.value("registers") == "array")
+        regions, lines, spares = (int(self.value(name)) for name in ("regions", "lines", "spares"))
+        return Shape(self.banks, regions, lines, spares, self.value("registers") == "array")
 
     @property
     def senses(self) -> int:

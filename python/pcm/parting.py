@@ -129,7 +129,7 @@ def asked_by(given: Given, jobs: int) -> Asked:
         if given.trace is not None:
             raise UsageError(2, f"{given.trace}: with --input drawn no trace is read")
         return asked
-    if given.trace in (None, "-"):
+    if given.trace is None or given.trace == "-":
         return asked
     path, size, changed = trace_of(given.trace)
     return dataclasses.replace(asked, trace=path, size=size, changed=changed)
@@ -276,7 +276,7 @@ def _in_folder(call: _Call, path: str) -> int:
         if "missing" in given.flags:
             print(",".join(map(str, folder.missing(asked.parts))))
             return 0
-        if part >= asked.parts:
+        if part is None or part >= asked.parts:
             raise UsageError(2, f"--part {part}: {path} has {asked.parts} parts, from 0 on")
         with folder.held(part):
             if folder.status(part) is None:
@@ -294,20 +294,27 @@ def _in_folder(call: _Call, path: str) -> int:
         return call.join(folder, asked, split)
 
 
+def _in_passing(call: _Call) -> int:
+    """Works at a folder that goes with the run."""
+    asked = asked_by(call.given, call.jobs)
+    with tempfile.TemporaryDirectory(prefix="pcm-parts.") as room:
+        folder = Folder(room)
+        split = call.play_at_once(folder, asked)
+        return call.join(folder, asked, split)
+
+
 def _work(words: Sequence[str]) -> int:
     given = read_words(words)
     with contextlib.ExitStack() as held:
         call = _Call(given, held)
         try:
             if "folder" in given.values:
-                return _in_folder(call, given.values["folder"])
-            asked = asked_by(given, call.jobs)
-            with tempfile.TemporaryDirectory(prefix="pcm-parts.") as room:
-                folder = Folder(room)
-                split = call.play_at_once(folder, asked)
-                return call.join(folder, asked, split)
+                status = _in_folder(call, given.values["folder"])
+            else:
+                status = _in_passing(call)
         finally:
             call.progress.clear()
+    return status
 
 
 def main(words: Sequence[str]) -> int:

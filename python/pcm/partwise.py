@@ -10,7 +10,7 @@ import io
 import os
 import struct
 import sys
-from typing import BinaryIO, Callable, Dict, Iterator, List, NamedTuple, Optional, Sequence
+from typing import BinaryIO, Callable, Dict, Iterator, List, NamedTuple, Optional, Sequence, Union
 
 if not __package__:
     sys.path[0] = os.path.dirname(os.path.dirname(os.path.abspath(__file__)))
@@ -64,12 +64,15 @@ class _Splitter:
         self._place = Randomiser(self.lines, asked.seed).place
         piece, is_first = (asked.piece[0], asked.piece[1] == 0) if asked.piece else (0, True)
         names = [f"{asked.to}{part}.{piece}" for part in range(asked.parts)]
-        outs = [int(fd) for fd in asked.to.split(",")] if asked.to[:1].isdigit() else names
+        outs: Sequence[Union[int, str]] = names
+        if asked.to[:1].isdigit():
+            outs = [int(fd) for fd in asked.to.split(",")]
         # (an index is at the bottom: no part has a row of which nothing is known)
         self._parts = [
             _Part(open(out, "wb"), open(f"{asked.index}{part}.{piece}", "wb") if asked.index else None) for part, out in enumerate(outs)
         ]
-        self.rows, self.tick, self.first, self.ends_in_cut = 0, 0, None, False
+        self.first: Optional[int] = None
+        self.rows, self.tick, self.ends_in_cut = 0, 0, False
         self._counts, self._noted, self._is_piece = [0] * asked.parts, [0] * asked.parts, asked.piece is not None
         for part in self._parts if is_first else ():
             part.rows.write(HEADER.encode())
@@ -81,10 +84,10 @@ class _Splitter:
         self.tick, self.ends_in_cut = tick, kind == CUT
         self.rows += kind != SETTLE
         if kind in (CUT, SETTLE):
-            bank, to = 0, range(len(self._parts))
+            bank, to = 0, list(range(len(self._parts)))
         else:
             bank = self._place(line) // self._lines_of_bank
-            to = (bank % len(self._parts),)
+            to = [bank % len(self._parts)]
         for part in to:
             self._counts[part] += kind != SETTLE
             self._note(part, tick << 9 | bank << 3 | kind, line)
@@ -131,8 +134,8 @@ def _split(words: Sequence[str]) -> None:
     asked = parser.parse_args(words)
     splitter = _Splitter(asked)
     if asked.drawn:
-        numbers = [int(number) for number in asked.drawn.split(",")]
-        for row in drawn(Draw(*numbers, splitter.lines, splitter.size)):
+        numbers = map(int, asked.drawn.split(","))
+        for row in drawn(Draw._make([*numbers, splitter.lines, splitter.size])):
             text = row.text()
             op, line = text.split(",", 3)[1:3]
             splitter.take(op, row.tick, int(line or 0), text.encode())

@@ -7,7 +7,7 @@ import signal
 import subprocess
 import sys
 import time
-from typing import BinaryIO, Callable, Dict, Iterator, List, NamedTuple, Optional, Sequence
+from typing import IO, BinaryIO, Callable, Dict, Iterator, List, NamedTuple, Optional, Sequence
 
 from .compiling import compiled
 from .errors import PcmError
@@ -55,6 +55,10 @@ class Run(NamedTuple):
     passing: List[str]
 
 
+def _all_of(pipe: Optional[IO[bytes]]) -> bytes:
+    return pipe.read() if pipe else b""
+
+
 class _Process:
     """A process, and what it says on standard error: at most a line, for which a pipe has room."""
 
@@ -68,7 +72,7 @@ class _Process:
 
     def said(self) -> str:
         """What it said, once it has ended."""
-        return self.running.stderr.read().decode(errors="replace").strip()
+        return _all_of(self.running.stderr).decode(errors="replace").strip()
 
     def end(self) -> None:
         """Ends it, however far it is."""
@@ -113,11 +117,11 @@ class Playing:
     def _start(self, line: List[List[str]], source: int, out: BinaryIO) -> None:
         """Starts processes, each of which reads what the one before it writes."""
         for at, one in enumerate(line):
-            given = self._processes[-1].running.stdout if at else source
+            before = self._processes[-1].running.stdout if at else None
             to = out if at == len(line) - 1 else subprocess.PIPE
-            self._processes.append(_Process(one, stdin=given, stdout=to, env={**os.environ, "LC_ALL": "C"}))
-            if at:
-                given.close()
+            self._processes.append(_Process(one, stdin=before or source, stdout=to, env={**os.environ, "LC_ALL": "C"}))
+            if before:
+                before.close()
 
     def ended(self) -> bool:
         """Whether all of it has ended; a failure is raised."""
@@ -135,12 +139,12 @@ class Playing:
         return True
 
     def _failure(self, process: _Process) -> PartFailed:
-        line = process.said()
-        if process.status < 0:
-            return PartFailed(_BROKEN_OFF, f"part {self.part} was ended by signal {-process.status}")
-        if process.status == 6:
+        line, status = process.said(), process.running.wait()
+        if status < 0:
+            return PartFailed(_BROKEN_OFF, f"part {self.part} was ended by signal {-status}")
+        if status == 6:
             line += " (a part has more rows than a stream takes: --parts, of which there are more, makes them shorter)"
-        return PartFailed(process.status, f"part {self.part}: status {process.status}: {line}")
+        return PartFailed(status, f"part {self.part}: status {status}: {line}")
 
     def end(self) -> None:
         """Ends all of it, and takes away what isn't whole."""
@@ -197,7 +201,7 @@ class _Splitting(_Process):
 
     def told(self) -> Told:
         """What it told of the parts: a short line of each."""
-        return Told.read(self.running.stdout.read().decode())
+        return Told.read(_all_of(self.running.stdout).decode())
 
 
 class SplitFailed(PcmError):
@@ -328,7 +332,7 @@ def play_on_the_way(run: Run, source: int, tell: Callable[[], None]) -> Split:
         files.close()
         _wait(splitters[0], parts, tell)
         told = splitters[0].told()
-        return Split(told.rows, told.counts, [])
+    return Split(told.rows, told.counts, [])
 
 
 class _Batch:
