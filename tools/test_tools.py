@@ -616,6 +616,13 @@ class Installed(unittest.TestCase):
         self.assertEqual(done.stdout, f"['{self.prefix}/share/pcm/pcm']\n", done.stderr)
         self.assertEqual(subprocess.run([self.prefix / "share/pcm/pcm", "map"], capture_output=True, text=True).stdout, "pcm_cli map\n")
 
+    def test_help_says_how_a_copy_is_made_that_works(self):
+        line = self.pcm("help").stdout.splitlines()[-1]
+        with tempfile.TemporaryDirectory() as room:
+            subprocess.run(["sh", "-c", line], cwd=room, check=True)
+            told = subprocess.run(["./pcm", "map"], cwd=f"{room}/mine", capture_output=True, text=True)
+        self.assertEqual((told.stdout, told.stderr), ("pcm_cli map\n", ""))
+
     def test_python_finds_the_package_below_a_folder_from_which_it_imports(self):
         base = self.room.folder / "a home"
         around = {"PYTHONUSERBASE": str(base), "PYTHONDONTWRITEBYTECODE": "1"}

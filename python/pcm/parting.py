@@ -22,7 +22,8 @@ at once, and what they print is kept in a temporary folder (TMPDIR says where) u
 stream takes, as long as no part has.
 
 Not in parts: --print snapshots (they are due by numbers of rows of the whole trace; a look, `tick,L,,`, is joined), --until refused (which
-row is the first of all no part knows), and a settle until, `tick,U,ROW,`, which is told at its row, before anything is printed.
+row is the first of all no part knows), --first-bank and --last-bank (parts are banks), and a settle until, `tick,U,ROW,`, which is told
+at its row, before anything is printed.
 
 A fault of the trace is told as a stream tells it, and nothing else is printed. Statuses are those of a stream; 5 also where another call is
 at work at the folder, and 70 where a process was ended by a signal, or couldn't be started."""
@@ -108,6 +109,9 @@ def _refuse(given: Given) -> None:
     for (name, value), why in _WHOLE.items():
         if given.options.get(name) == value:
             raise UsageError(2, f"--{name} {value} isn't played in parts: {why}")
+    banks = [name for name in ("first-bank", "last-bank") if name in given.options]
+    if banks:
+        raise UsageError(2, f"--{banks[0]} isn't played in parts: the parts are of all banks; a stream serves some of them by itself")
     if given.values.get("order", "number") not in ("number", "stream"):
         raise UsageError(2, f"--order {given.values['order']}: it may be number or stream")
     if "order" in given.values and given.options.get("print", "rows") != "rows":
