@@ -57,25 +57,12 @@ static inline char **pcm__variables(char *one, char *two)
     return all;
 }
 
-/* Two ends of a socket that keeps messages apart, neither of them 0, 1 or 2, which the caller may have closed. */
+/* Two ends of a socket that keeps messages apart. */
 static inline int pcm__asked_by(int ends[2])
 {
-    int made[2];
-    ends[0] = ends[1] = -1;
-    if (socketpair(AF_UNIX, SOCK_SEQPACKET | PCM__CLOEXEC, 0, made) != 0)
-        return -1;
-    for (int i = 0; i < 2; i++) {
-        ends[i] = made[i] > 2 ? made[i] : fcntl(made[i], F_DUPFD, 3);
-        if (ends[i] != made[i])
-            close(made[i]);
-    }
-    if (ends[0] >= 0 && ends[1] >= 0 && fcntl(ends[0], F_SETFD, FD_CLOEXEC) == 0 && fcntl(ends[1], F_SETFD, FD_CLOEXEC) == 0)
-        return 0;
-    for (int i = 0; i < 2; i++)
-        if (ends[i] >= 0)
-            close(ends[i]);
-    ends[0] = ends[1] = -1;
-    return -1;
+    int made[2] = {-1, -1};
+    int status = socketpair(AF_UNIX, SOCK_SEQPACKET | PCM__CLOEXEC, 0, made);
+    return pcm__ends(ends, status, made);
 }
 
 static inline enum pcm_result pcm_open_copied(struct pcm *pcm, const char *const words[], const char *library)

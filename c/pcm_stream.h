@@ -255,14 +255,12 @@ extern char **environ;
 #define PCM__PIPE(ends) socketpair(AF_UNIX, SOCK_STREAM | PCM__CLOEXEC, 0, ends)
 #endif
 
-/* Two ends of a stream, to send by or to take by, that no other program gets. Neither is 0, 1 or 2, which the caller may have closed: the program
-   has its own there. (To send by, sockets: they are sent to without a signal where the program has ended. To take by, a pipe, where one can be
-   made that no other thread's child gets: the program may write answers one by one, and that costs less there.) */
-static inline int pcm__pair(int ends[2], int is_to_take)
+/* Two ends that were made, or that couldn't be, as no other program gets them. Neither is 0, 1 or 2, which the caller may have closed: the program has
+   its own there. */
+static inline int pcm__ends(int ends[2], int status, const int made[2])
 {
-    int made[2];
     ends[0] = ends[1] = -1;
-    if ((is_to_take ? PCM__PIPE(made) : socketpair(AF_UNIX, SOCK_STREAM | PCM__CLOEXEC, 0, made)) != 0)
+    if (status != 0)
         return -1;
     for (int i = 0; i < 2; i++) {
         ends[i] = made[i] > 2 ? made[i] : fcntl(made[i], F_DUPFD, 3);
@@ -274,7 +272,17 @@ static inline int pcm__pair(int ends[2], int is_to_take)
     for (int i = 0; i < 2; i++)
         if (ends[i] >= 0)
             close(ends[i]);
+    ends[0] = ends[1] = -1;
     return -1;
+}
+
+/* Two ends of a stream, to send by or to take by. (To send by, sockets: they are sent to without a signal where the program has ended. To take by, a
+   pipe, where one can be made that no other thread's child gets: the program may write answers one by one, and that costs less there.) */
+static inline int pcm__pair(int ends[2], int is_to_take)
+{
+    int made[2] = {-1, -1};
+    int status = is_to_take ? PCM__PIPE(made) : socketpair(AF_UNIX, SOCK_STREAM | PCM__CLOEXEC, 0, made);
+    return pcm__ends(ends, status, made);
 }
 
 /* How a program is started: in a group of its own, by these variables, and with a further descriptor, where that isn't 0. */

@@ -43,7 +43,7 @@ def _built(wheel_directory, files):
 
 def build_wheel(wheel_directory, config_settings=None, metadata_directory=None):
     """Writes the wheel (PEP 517), and answers its name."""
-    files = {f"pcm/{file.name}": file.read_bytes() for file in sorted((HERE / "pcm").iterdir()) if file.suffix in (".py", ".c")}
+    files = {f"pcm/{file.name}": file.read_bytes() for file in sorted((HERE / "pcm").iterdir()) if file.suffix in (".py", ".c", ".h")}
     return _built(wheel_directory, {**files, "pcm/py.typed": b""})
 
 

@@ -71,7 +71,7 @@ def files():
     yield "share/pcm/README.md", readme(), False
     yield from texts()
     yield "share/pcm/VERSION", TOP / "VERSION", False
-    for it in sorted(it for it in (TOP / "python" / "pcm").iterdir() if it.suffix in (".py", ".c")):
+    for it in sorted(it for it in (TOP / "python" / "pcm").iterdir() if it.suffix in (".py", ".c", ".h")):
         yield f"share/pcm/python/pcm/{it.name}", it, False
     for name in pages.MANUAL:
         yield f"share/man/man1/{name}", pages.PAGES[name]().encode(), False

@@ -13,6 +13,8 @@
 #include <string.h>
 #include <unistd.h>
 
+#include "xoshiro.h"
+
 static void leave(int status, const char *why)
 {
     if (why)
@@ -165,36 +167,6 @@ static uint64_t number(char **at)
     return value;
 }
 
-/* The generator of drawn traces: xoshiro256++ from SplitMix64 of the seed. */
-static uint64_t state[4];
-
-static uint64_t rotated(uint64_t word, int by)
-{
-    return word << by | word >> (64 - by);
-}
-
-static uint64_t word(void)
-{
-    uint64_t found = rotated(state[0] + state[3], 23) + state[0], kept = state[1] << 17;
-    state[2] ^= state[0];
-    state[3] ^= state[1];
-    state[1] ^= state[2];
-    state[0] ^= state[3];
-    state[2] ^= kept;
-    state[3] = rotated(state[3], 45);
-    return found;
-}
-
-static void seeded(uint64_t seed)
-{
-    for (int i = 0; i < 4; i++) {
-        uint64_t z = seed += UINT64_C(0x9E3779B97F4A7C15);
-        z = (z ^ z >> 30) * UINT64_C(0xBF58476D1CE4E5B9);
-        z = (z ^ z >> 27) * UINT64_C(0x94D049BB133111EB);
-        state[i] = z ^ z >> 31;
-    }
-}
-
 /* Where arrivals come from. */
 static struct lines trace;
 static uint64_t drawn[8]; /* seed, rows, percent, cuts, step, hot, lines, bytes */
@@ -214,13 +186,13 @@ static int come(void)
         if (part == 0)
             part = 1;
         arrived++;
-        now += word() % (drawn[4] + 1);
+        now += drawn_word() % (drawn[4] + 1);
         if (arrived % part != 0 || arrived / part > drawn[3]) {
-            uint64_t which = word();
+            uint64_t which = drawn_word();
             op = (which >> 32) % 100 < drawn[2] ? WRITE : READ;
             if (op == WRITE)
                 for (uint64_t i = 0; i < drawn[7] / 8; i++)
-                    word();
+                    drawn_word();
         }
     } else {
         char *line;
@@ -297,7 +269,7 @@ int main(int count, char **words)
         char *at = words[2];
         for (int i = 0; i < 8; i++, at += *at == ',')
             drawn[i] = strtoull(at, &at, 10);
-        seeded(drawn[0]);
+        draw_by(drawn[0]);
     } else {
         lines_open(&trace, words[1], 0);
         char *head = lines_next(&trace);

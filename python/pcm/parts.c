@@ -28,6 +28,8 @@
 #include <string.h>
 #include <unistd.h>
 
+#include "xoshiro.h"
+
 enum { PARTS = 64, PIECE = 1 << 16, ROOM = 1 << 18, DIGITS = 18 };
 enum kind { READ, WRITE, CUT, SETTLE, PASSED = 7 };
 static const uint64_t LAST_TICK = UINT64_C(1) << 40;
@@ -181,14 +183,6 @@ static char *next_line(struct lines *lines, size_t *length)
 /* The randomiser: where a line goes, counted through the banks. */
 static uint64_t keys[3], low, high;
 static int width;
-
-static uint64_t split_mix(uint64_t *state)
-{
-    uint64_t z = *state += UINT64_C(0x9E3779B97F4A7C15);
-    z = (z ^ z >> 30) * UINT64_C(0xBF58476D1CE4E5B9);
-    z = (z ^ z >> 27) * UINT64_C(0x94D049BB133111EB);
-    return z ^ z >> 31;
-}
 
 static void key_randomiser(uint64_t total, uint64_t seed)
 {
@@ -412,23 +406,6 @@ static void split_trace(void)
         split_row(row, length);
 }
 
-/* The generator of drawn traces: xoshiro256++ from SplitMix64 of the seed. */
-static uint64_t state[4];
-
-static uint64_t rotated(uint64_t word, int by) { return word << by | word >> (64 - by); }
-
-static uint64_t drawn_word(void)
-{
-    uint64_t found = rotated(state[0] + state[3], 23) + state[0], kept = state[1] << 17;
-    state[2] ^= state[0];
-    state[3] ^= state[1];
-    state[1] ^= state[2];
-    state[0] ^= state[3];
-    state[2] ^= kept;
-    state[3] = rotated(state[3], 45);
-    return found;
-}
-
 static void split_drawn(const char *numbers)
 {
     uint64_t of[6];
@@ -439,9 +416,8 @@ static void split_drawn(const char *numbers)
             leave(2, "--drawn wants six numbers");
         numbers = end + 1;
     }
-    uint64_t seed = of[0], rows = of[1], percent = of[2], cuts = of[3], step = of[4], hot = of[5], part = rows / (cuts + 1);
-    for (int i = 0; i < 4; i++)
-        state[i] = split_mix(&seed);
+    uint64_t rows = of[1], percent = of[2], cuts = of[3], step = of[4], hot = of[5], part = rows / (cuts + 1);
+    draw_by(of[0]);
     if (part == 0)
         part = 1;
     if (hot > whole.lines)

@@ -119,7 +119,7 @@ class Energy(Room):
         code = f"import sys; sys.path.insert(0, {str(package)!r}); import wheel_of; print(wheel_of.build_wheel({str(self.folder)!r}))"
         name = subprocess.run([sys.executable, "-B", "-c", code], stdout=subprocess.PIPE, text=True, check=True).stdout.strip()
         with zipfile.ZipFile(self.folder / name) as wheel:
-            there = {f"pcm/{file.name}" for file in (package / "pcm").iterdir() if file.suffix in (".py", ".c")}
+            there = {f"pcm/{file.name}" for file in (package / "pcm").iterdir() if file.suffix in (".py", ".c", ".h")}
             self.assertLessEqual(there, set(wheel.namelist()))
             self.assertIn("pcm/latencies.c", there)
 
