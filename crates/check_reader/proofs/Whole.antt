@@ -1,6 +1,6 @@
 -- The rows of results, one after the other.
 use Rattle.std.proofs.Common.{◌≡◌, ◌≢◌, ℕ, zero, suc, ◌+◌, ◌-◌, ◌<◌, ◌≤◌, inl, inr, List, [], ◌∷◌, ◌++◌, length, take, drop, get_or, true, false, Some, refl, sym, ◌∙◌, arith, append_assoc, append-nil, replicate}
-use Rattle.std.{specs.Prelude.slice_get, specs.Str.bytes_eq, proofs.Math.Seq.{drop-cons, take-append_seam}, proofs.lemmas.Grind.common_steps}
+use Rattle.std.{specs.Prelude.slice_get, specs.Str.bytes_eq, proofs.Math.Seq.{drop-cons, take-append_seam}}
 use Rattle.std.proofs.{lemmas.List.{take_all, take-append-drop, take_more_set, drop_all}, lemmas.Slice.Eq.bytes_eq-Decides}
 use Rattle.result_rows.specs.{RowText.rows_text, Table.{outcome_at, with_outcome}, declared.Op.Op, declared.Outcome.Outcome}
 use Rattle.result_rows.proofs.TableLemmas.{length-with_outcome, outcome_at-other}

@@ -1,4 +1,3 @@
-mod Faults
 pub mod Judged
 mod Printed
 pub mod Plain

@@ -1,11 +1,11 @@
 -- An action that ends.
-use Rattle.std.proofs.Common.{◌≡◌, ℕ, ◌<◌, Bool, false, List, [], ◌∷◌, map, Option, Some, None, refl, sym, ap, subst, ◌∙◌, arith}
+use Rattle.std.proofs.Common.{◌≡◌, ℕ, ◌<◌, Bool, false, List, [], ◌∷◌, map, Option, Some, None, refl, sym, subst, ◌∙◌, arith}
 use Rattle.std.specs.Prelude.{IfSome, IsSomeAnd}
 use Rattle.masked_bytes.specs.declared.entry.Entry.{Entry}
 use Rattle.cell_rows.specs.{Device.ArrayState, declared.array.Sense.Sense}
 use Rattle.ecp_line.specs.Reading.{decode}
 use Rattle.bank_shape.specs.{Shape.controls_of, declared.BankShape.BankShape, declared.clock.Action.Action, declared.clock.Doing.Doing, declared.pace.Pace.Pace}
-use Rattle.bank_model.specs.{Changes.{change_after, line_of_change}, Events.BankEvent, History.{queue, begun}, Lawful.{IsAsked, IsOnTime, IsKeptOnTime}}
+use Rattle.bank_model.specs.{Changes.{change_after, line_of_change}, Events.BankEvent, History.queue, Lawful.{IsAsked, IsOnTime, IsKeptOnTime}}
 use Rattle.bank_model.specs.{Running.{left, cancels_by, cancels_with, running_at}, Sensing.{is_at, sensed_by, pulsed_by, read_again, kept_sensed, kept_pulsed, copied, begun_with}}
 use Rattle.bank_model.specs.{Timing.{TimedEvent, Happens, Core, Regs, Keeping, ends, core}, Told.tick_of_row, Touching.{Touches, shown}}
 use Rattle.reg_lines.specs.declared.Change.{Change}

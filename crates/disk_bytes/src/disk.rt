@@ -211,8 +211,8 @@ impl<const B: usize> Disk<B> {
         Ok(done + piece.size)
     }
 
-    /// Writes bytes from an offset on: at each moment some first ones of them are written, up to
-    /// the end of a sector, and each sector is whole.
+    /// Writes bytes from an offset on: all of them or, where it is stopped, some first ones, up to
+    /// the end of a sector. Each sector is whole.
     pub fn write<L: Lines<B>>(
         &mut self,
         lines: &mut L,

@@ -104,6 +104,7 @@ fn write<const B: usize, L: Lines<B>>(
 /// answered has, byte for byte, what the newest writes gave; a write that is acknowledged is made
 /// whole; and of one that is stopped some first bytes are made, up to the end of a sector, once and
 /// for all. No more requests are stopped, but for want of memory, than calls of the lines were.
+/// Where no memory is left for the list of answers, nothing is said of which were served.
 pub fn serve_all<const B: usize, L: Lines<B>>(
     alloc: Global,
     disk: &mut Disk<B>,

@@ -4,6 +4,5 @@ pub mod Making
 pub mod Settling
 pub mod Going
 pub mod Rounds
-pub mod Fresh
 pub mod Untouched
 pub mod Orderly

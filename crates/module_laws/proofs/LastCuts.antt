@@ -1,6 +1,6 @@
 -- Where the last row is a power cut, at whose tick the bank still stands, its history ends with that cut.
 use Rattle.std.proofs.Common.{◌≡◌, ℕ, ◌<◌, ◌≤◌, Bool, true, false, List, [], ◌∷◌, refl, sym, ap, ◌∙◌, arith}
-use Rattle.std.{specs.Prelude.{IsTrue, IsFalse}, proofs.lemmas.Bool.false_from_ne_true}
+use Rattle.std.proofs.lemmas.Bool.{false_from_ne_true}
 use Rattle.row_rules.specs.{declared.Asks.Asks, declared.Asks.TheVariants.{Reads, Writes, Cuts}}
 use Rattle.bank_shape.specs.{declared.BankShape.BankShape, declared.pace.Pace.Pace}
 use Rattle.bank_model.specs.{Events.{BankEvent, Write, Read, Cut}, Lawful.{Lawful, MayCome, FollowsCancel, IsUncancelled, IsRead}}

@@ -10,7 +10,7 @@ use Rattle.trace_reader.{specs.Events.{AreEventsFor, IsOpFor}, specs.declared.ev
 use Rattle.trace_reader.specs.declared.event.EventOp.TheVariants as op
 use Rattle.result_rows.specs.{Outcomes.op_of, declared.Outcome.Outcome}
 use Rattle.row_rules.specs.{Lines.IsOfLines, Rows.op_asked, declared.Row.Row}
-use Rattle.module_shape.specs.{Limits.{IsShape, IsSmall, total_of}, declared.raw.RawShape.RawShape}
+use Rattle.module_shape.specs.{Limits.{IsSmall, total_of}, declared.raw.RawShape.RawShape}
 use Rattle.right_runs.specs.{Ends.BankEnd, Runs.RunsRight}
 use Rattle.run_laws.specs.RowsOfRuns.{LinesExist, OwnOutcomesLaw}
 use Rattle.run_text.specs.ResultText.{ArePrintable, named_line}

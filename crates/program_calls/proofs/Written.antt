@@ -1,7 +1,7 @@
 -- How texts are written, piece after piece, and under another name.
-use Rattle.std.proofs.Common.{◌≡◌, ℕ, suc, ◌+◌, ◌<◌, ◌≤◌, List, [], ◌++◌, length, get_or, drop, Bor, Option, refl, sym, ap, ◌∙◌, arith, append_assoc}
-use Rattle.std.{specs.Io.KnownBytes.Appends, specs.Prelude.{Result, Ok, Err, OnErr}, proofs.Math.Seq.drop-cons, proofs.lemmas.List.{append-nil, drop_all}}
-use Rattle.pcm_io.{specs.Giving.AppendsPrefix, proofs.ByteLemmas.{Appends-Appends, Appends-AppendsPrefix, Appends-nothing, AppendsPrefix-longer}}
+use Rattle.std.proofs.Common.{◌≡◌, ℕ, suc, ◌+◌, ◌<◌, List, [], ◌++◌, length, get_or, drop, Bor, Option, sym, ap, ◌∙◌, arith, append_assoc}
+use Rattle.std.{specs.Io.KnownBytes.Appends, specs.Prelude.{Result, Ok, Err, OnErr}, proofs.Math.Seq.drop-cons}
+use Rattle.pcm_io.{specs.Giving.AppendsPrefix, proofs.ByteLemmas.{Appends-Appends, Appends-AppendsPrefix, AppendsPrefix-longer}}
 use Rattle.program_calls.specs.{Calls.{SinkChange, Writes}, FaultLines.joined}
 
 -- what was written under one name was under another

@@ -1,6 +1,6 @@
 -- The laws of a whole table.
 use Rattle.std.specs.Prelude.{ℕ, List, [], Bool, true, ◌==◌, filter, IsTrue}
-use Rattle.row_rules.specs.{Queueing.is_queue_fair, Rows.{RowTest, each_row}, Serving.is_served, Ticking.is_in_time, Wearing.{is_wear_final, is_wear_earned}, declared.Asks.Asks}
+use Rattle.row_rules.specs.{Queueing.is_queue_fair, Rows.each_row, Serving.is_served, Ticking.is_in_time, Wearing.{is_wear_final, is_wear_earned}, declared.Asks.Asks}
 use Rattle.row_rules.specs.{declared.Asks.TheVariants.{Reads, Writes, Cuts}, declared.Row.Row, declared.Rules.Rules}
 
 -- each row of one bank's table, the newest first, keeps the laws of the rows

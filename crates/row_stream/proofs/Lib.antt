@@ -1,16 +1,16 @@
 -- A table with one place more, that each row was told, in which order, how a row is served, what a step of a stream does, how what waits in the banks is told, the table of a run, how a stream ends, where it stops at a refusal, and printers that were told the same.
-mod Growing
+pub mod Growing
 mod Standing
 pub mod Each
 mod InTurn
-mod Order
+pub mod Order
 mod Backlogs
-mod Going
+pub mod Going
 mod Ticks
-mod Nowhere
-mod Turning
+pub mod Nowhere
+pub mod Turning
 pub mod Tables
-mod Ends
+pub mod Ends
 mod Rows
 mod Steps
 mod Draws

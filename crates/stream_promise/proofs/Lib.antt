@@ -1,3 +1,3 @@
-mod Rows
+pub mod Rows
 mod Spares
 mod Promise

@@ -5,7 +5,7 @@ use Rattle.rand_core.specs.Stream.{Stream, next_u64}
 use Rattle.rand_xoshiro.specs.{SplitMix64.splitmix_seed, Xoshiro256.of_seed}
 use Rattle.seeded_words.specs.Words.{xoshiro_of}
 use Rattle.trace_reader.specs.{Events.{AreEventsFor, IsEventFor, IsOpFor}, Rows.latest_tick, declared.event.Event.Event, declared.event.EventOp.EventOp}
-use Rattle.trace_gen.specs.Generated.{IsLongMix, IsMix, access_by, draws_write, event_drawn, events_drawn, generated, is_cut_row, line_drawn, op_drawn, whole_lines}
+use Rattle.trace_gen.specs.Generated.{IsMix, access_by, draws_write, event_drawn, events_drawn, generated, is_cut_row, line_drawn, op_drawn, whole_lines}
 use Rattle.trace_gen.specs.{Laws.{AllHaveBytes, AllWithin, GeneratedLaw, GeneratedTextLaw, HasBytes, IsGenerated, LongGeneratedLaw, LongMixLaw}, declared.mix.Mix.Mix}
 use Rattle.trace_gen.proofs.{Cuts.cuts-all, Read.text_law, Words.{IsWords, after-word, fills}}
 

@@ -1,4 +1,3 @@
-use Rattle.std.proofs.Common.{◌≡◌}
 use Rattle.rotation_reports.proofs.Bounds.{six_fields}
 use Rattle.rotation_reports.proofs.line_rows.push_standing.Goals as goal
 

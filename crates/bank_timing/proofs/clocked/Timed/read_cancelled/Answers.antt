@@ -4,7 +4,7 @@ use Rattle.bank_invariant.specs.{Serving.read_from, State.BankState}
 use Rattle.clock_laws.specs.State.{ClockState}
 use Rattle.bank_timing.{specs.Cancelling.cancel_by, specs.Extending.Arrives, proofs.Cancels.{CancelsRead, cancels-read, with_bank, cancel-arrives, behind-cancel}}
 use Rattle.bank_timing.proofs.{ReadArrivals.read-keeps, Sizes.{bank_fits, read_fits}, Views.clock_of, clocked.Timed.read_cancelled.Given.Over}
-use Rattle.bank_timing.proofs.clocked.Timed.read_cancelled.Goals.{After-cancel, After-read}
+use Rattle.bank_timing.proofs.clocked.Timed.read_cancelled.Goals.{After-read}
 use Rattle.bank_timing.proofs.clocked.Timed.read_cancelled.Goals as goal
 
 pub read-requires : goal.read-requires

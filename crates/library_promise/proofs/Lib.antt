@@ -1,0 +1,2 @@
+-- What was served along the histories of the banks was told by rows.
+mod Rows

@@ -1,0 +1,51 @@
+-- What contracts see of a keeper of outcomes.
+use Rattle.std.proofs.Common.{refl, ◌∙◌}
+use Rattle.std.specs.Prelude.{◌≡◌, ℕ, ◌≤◌, Bool, false, List, [], ◌∷◌, ◌++◌, Option, None}
+use Rattle.result_rows.specs.declared.Outcome.{Outcome}
+use Rattle.row_printer.specs.{Printing.{Printing, PrintsOn}, Telling.{outcomes_in, TellsOnce}, declared.told.Told.Told}
+use Rattle.row_printer.specs.GoingOn as on
+use Rattle.pcm_library.specs.declared.keeper.Kept.{Kept}
+
+-- the outcomes that were taken and those that wait, in order, and whether one was lost
+pub record Waiting (n : ℕ) : Type 0 where
+  pub taken : List (Kept n)
+  pub waiting : List (Kept n)
+  pub lost : Bool
+
+-- an outcome that is kept
+abbrev pub kept_of : {n : ℕ} → ℕ → Outcome n → Kept n
+kept_of row outcome = record { row = row; outcome = outcome }
+
+-- outcomes, each with its row
+abbrev pub kept_pairs : {n : ℕ} → List (Kept n) → List (ℕ × Outcome n)
+kept_pairs [] = []
+kept_pairs (kept ∷ more) = (kept.row, kept.outcome) ∷ kept_pairs more
+
+-- where none was lost, what was told is what was taken and behind it what waits
+abbrev pub IsToldTo : {n : ℕ} → List (Told n) → Waiting n → Type 0
+IsToldTo told sink = sink.lost ≡ false → outcomes_in told ≡ kept_pairs sink.taken ++ kept_pairs sink.waiting
+
+-- lines are short; each row was told once; and where no outcome was lost, what was told was taken or waits
+pub record IsKept {n : ℕ} (lost : Bool) (rows : ℕ) (told : List (Told n)) (taken waiting : List (Kept n)) : Type 0 where
+  pub few : n ≤ 128
+  pub once : TellsOnce rows (outcomes_in told)
+  pub whole : IsToldTo told (record { taken = taken; waiting = waiting; lost = lost })
+
+-- nothing is written where outcomes are kept, and no write fails
+abbrev pub unwritten : {n : ℕ} → Waiting n → Option (List ℕ)
+unwritten sink = None
+
+abbrev pub unfailing : {n : ℕ} → Waiting n → ℕ
+unfailing sink = 0
+
+module _ {n : ℕ} where
+  -- one became the other by outcomes that it was told; none was taken
+  pub record KeepsOn (old new : Printing n (Waiting n)) : Type 0 where
+    pub prints : PrintsOn unwritten unfailing old new
+    pub taken : new.sink.taken ≡ old.sink.taken
+
+  pub stands-on : (one : Printing n (Waiting n)) → KeepsOn one one
+  stands-on one = record { prints = on.stands-on unwritten unfailing one; taken = refl }
+
+  pub follows-on : (one two three : Printing n (Waiting n)) → KeepsOn one two → KeepsOn two three → KeepsOn one three
+  follows-on one two three a b = record { prints = on.follows-on unwritten unfailing one two three a.prints b.prints; taken = b.taken ∙ a.taken }

@@ -1,0 +1,13 @@
+//! A module with its array, which another program calls row by row: each call is checked as it is made, and outcomes are kept until they are taken.
+#![tactic(auto)]
+
+mod keeper;
+mod list;
+mod looking;
+mod serving;
+mod session;
+mod waiting;
+
+pub use keeper::{Keeper, Kept};
+pub use list::GhostList;
+pub use session::{Answer, Session};
