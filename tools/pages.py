@@ -1,6 +1,8 @@
-"""The manual and the completions, made of docs/USING.md and of the table of options in python/pcm/words.py.
+"""The manual and the completions, made of docs/USING.md, of the table of options in python/pcm/words.py, and of what --help prints of programs
+that have no section there.
 
 Used by tools/install, tools/dist and tools/pages."""
+import ast
 import functools
 import importlib.util
 import re
@@ -57,12 +59,18 @@ def body(lines):
 
 
 def page(name, about, synopsis, parts):
+    """A page whose parts are lines of Markdown."""
+    return page_of(name, about, synopsis, [(title, list(body(text))) for title, text in parts])
+
+
+def page_of(name, about, synopsis, parts):
+    """A page whose parts are lines of roff."""
     version = (TOP / "VERSION").read_text(encoding="utf-8").strip()
     lines = [f'.TH {name.upper()} 1 "" "pcm {version}" "User Commands"', ".SH NAME", f"{name} \\- {roff(about)}", ".SH SYNOPSIS"]
     for words in synopsis:
         lines += [".PP", roff(words)]
     for title, text in parts:
-        lines += [f'.SH "{title}"' if title.isupper() else f'.SS "{title}"', *body(text)]
+        lines += [f'.SH "{title}"' if title.isupper() else f'.SS "{title}"', *text]
     return "\n".join(lines) + "\n"
 
 
@@ -78,7 +86,7 @@ def manual():
     commands, statuses = "\n".join(section("The commands")).split(STATUSES)
     parts = [("DESCRIPTION", commands.split("\n")), ("COMMANDS", [])]
     parts += [(f"pcm {it}", section(f"pcm {it}")) for it in table().COMMANDS if it not in table().ALONE]
-    also = ", ".join(f"`pcm-{it}`(1)" for it in table().ALONE)
+    also = ", ".join(f"`pcm-{it}`(1)" for it in (*table().ALONE, "parts"))
     parts += [("EXIT STATUS", statuses.split("\n")), ("ENVIRONMENT", ENVIRONMENT), ("SEE ALSO", [also])]
     return page("pcm", ABOUT, ["**pcm** *COMMAND* [`--option` *value* ..]".replace("*", "")], parts)
 
@@ -90,6 +98,47 @@ def manual_of(name):
     parts = [("DESCRIPTION", section(f"pcm {name}")), ("ENVIRONMENT", about), ("SEE ALSO", ["`pcm`(1)"])]
     words = f"pcm {name} {'[`--option` value ..] ' if command.options else ''}{command.usage}"
     return page(f"pcm-{name}", command.about, [words.rstrip()], parts)
+
+
+def help_of_parts():
+    """What `pcm parts --help` prints."""
+    return ast.get_docstring(ast.parse((TOP / "python" / "pcm" / "parting.py").read_text(encoding="utf-8")))
+
+
+def help_of_firmware():
+    """What `cut-firmware --help` prints."""
+    text = (TOP / "examples" / "firmware" / "words.hpp").read_text(encoding="utf-8")
+    told = re.search(r"usage\[\] =\n((?: +\".*\"\n?)+);", text)[1]
+    return "".join(ast.literal_eval(it.strip()) for it in told.splitlines()).rstrip()
+
+
+def told_by_help(text):
+    """A text of --help as roff: paragraphs, and options with what stands behind their blanks."""
+    for part in text.split("\n\n"):
+        if not part.startswith("  --"):
+            yield from (".PP", roff(" ".join(part.split())))
+            continue
+        for option, about in re.findall(r"(?m)^  (--.+?)  +(.*(?:\n    .*)*)", part):
+            yield from (".TP", roff(f"`{option}`"), roff(" ".join(about.split())))
+
+
+def manual_by_help(name, about, text, also):
+    """A manual that says what --help prints, without the usage, which is its synopsis."""
+    text = text.replace("python3 -m pcm", "pcm").replace("./pcm", "pcm")
+    usage = re.search(r"(?m)^usage: (.*?)(?: {3,}.*)?\n\n", text)
+    parts = [("DESCRIPTION", list(told_by_help(text.replace(usage[0], "")))), ("SEE ALSO", list(body([also])))]
+    return page_of(name, about, [usage[1]], parts)
+
+
+def manual_of_parts():
+    """pcm-parts(1)."""
+    return manual_by_help("pcm-parts", table().WRAPPERS["parts"], help_of_parts(), "`pcm`(1), `pcm-stream`(1)")
+
+
+def manual_of_firmware():
+    """cut-firmware(1)."""
+    about = "cuts the power under a firmware at every store to its simulated phase-change memory"
+    return manual_by_help("cut-firmware", about, help_of_firmware(), "`pcm-stream`(1)")
 
 
 def read_of(text):
@@ -237,6 +286,7 @@ _pcm "$@"
 """
 
 
-# The pages of the manual, and all that is made.
-MANUAL = {"pcm.1": manual, **{f"pcm-{it}.1": functools.partial(manual_of, it) for it in table().ALONE}}
-PAGES = {**MANUAL, "bash": bash, "zsh": zsh}
+# The pages of the manual, that of a program which isn't always installed, and all that is made.
+MANUAL = {"pcm.1": manual, **{f"pcm-{it}.1": functools.partial(manual_of, it) for it in table().ALONE}, "pcm-parts.1": manual_of_parts}
+FIRMWARE = {"cut-firmware.1": manual_of_firmware}
+PAGES = {**MANUAL, **FIRMWARE, "bash": bash, "zsh": zsh}

@@ -4,10 +4,10 @@
     libexec/pcm/                the programs
     share/pcm/                  README.md, docs/, examples/, c/ and python/pcm as in the repository, VERSION, and a link pcm to the wrapper: so links
                                 lead on, and in a copy of it each recipe works as it is written
-    share/man/man1/             pcm.1, pcm-stream.1, pcm-explain.1 and pcm-view.1
+    share/man/man1/             pcm.1, pcm-stream.1, pcm-explain.1, pcm-view.1 and pcm-parts.1
     share/bash-completion/completions/pcm, share/zsh/site-functions/_pcm
     include/                    pcm_stream.h, pcm_disk.h and their like, for drivers in C and C++, and for SystemC
-    bin/cut-firmware            and lib/pcm/pcm_copy.so, where they could be built
+    bin/cut-firmware            with lib/pcm/pcm_copy.so and cut-firmware.1, where they could be built
     share/pcm/sv/               for SystemVerilog"""
 import os
 import pathlib
@@ -61,6 +61,9 @@ def firmware():
     for name, path, runs in (("cut-firmware", "bin/cut-firmware", True), ("pcm_copy.so", "lib/pcm/pcm_copy.so", False)):
         if (FIRMWARE / "out" / name).is_file():
             yield path, FIRMWARE / "out" / name, runs
+    if (FIRMWARE / "out" / "cut-firmware").is_file():
+        for name, made in pages.FIRMWARE.items():
+            yield f"share/man/man1/{name}", made().encode(), False
 
 
 def files():

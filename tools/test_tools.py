@@ -602,7 +602,15 @@ class Installed(unittest.TestCase):
                     named = os.path.normpath(os.path.join(os.path.dirname(path), target))
                     self.assertTrue(named in tree or any(it.startswith(f"{named}/") for it in tree), f"{path}: {target}")
         self.assertIn("share/pcm/docs/USING.md", self.pcm("help").stdout)
-        self.assertNotIn("./pcm", "".join(self.pcm("help", it).stdout for it in ("run", "stream", "check", "explain", "view")))
+        told = [self.pcm("help", it).stdout for it in ("run", "stream", "check", "explain", "view", "parts")]
+        self.assertEqual([it.count("./pcm") for it in told], [0] * len(told))
+        self.assertIn("usage: python3 -m pcm parts [TRACE]", told[-1])
+        self.assertEqual(self.pcm("parts", "--help").stdout, told[-1])
+
+    def test_each_page_of_the_manual_is_there(self):
+        there = {it.name for it in (self.prefix / "share" / "man" / "man1").iterdir()}
+        self.assertEqual(there, set(pages.MANUAL))
+        self.assertLessEqual({"pcm.1", "pcm-stream.1", "pcm-parts.1"}, there)
 
     def test_what_drivers_include_is_there_and_no_test(self):
         there = {str(it.relative_to(self.prefix)) for folder in ("include", "share/pcm/sv") for it in (self.prefix / folder).iterdir()}
@@ -845,10 +853,17 @@ class Pages(unittest.TestCase):
     def test_the_manual_is_read_without_a_warning(self):
         if not shutil.which("man"):
             self.skipTest("there is no man")
-        for name in pages.MANUAL:
+        for name in (*pages.MANUAL, *pages.FIRMWARE):
             around = {**os.environ, "LC_ALL": "C.UTF-8", "MANWIDTH": "80"}
             done = subprocess.run(["man", "--warnings", "-l", "-"], input=pages.PAGES[name](), capture_output=True, text=True, env=around)
             self.assertEqual((done.returncode, done.stderr), (0, ""))
+
+    def test_a_manual_that_is_made_of_help_says_all_of_it(self):
+        for name, told in (("pcm-parts.1", pages.help_of_parts()), ("cut-firmware.1", pages.help_of_firmware())):
+            said = " ".join(pages.read_of(pages.PAGES[name]()))
+            plain = re.sub(r"(?m)^usage: .*\n\n", "", told.replace("./pcm", "pcm").replace("`", ""))
+            self.assertIn(" ".join(plain.split()), said)
+            self.assertGreater(pages.PAGES[name]().count(".TP\n"), 9, name)
 
     def test_the_completion_for_zsh_is_read(self):
         if not shutil.which("zsh"):
