@@ -14,8 +14,8 @@
      - no DMI: a pointer would pass by the queue, the array and the cuts. Debug transport reads the newest bytes and senses nothing; what it writes
        is written as by others, but takes no simulated time. It writes nothing while requests are under way, or the power is off.
 
-   A write that is answered TLM_OK_RESPONSE is accepted, so it outlives every cut. One that a cut ends is there up to one of its lines, and not
-   from there on. Where a bank's queue is full, or too many reads wait, b_transport doesn't return: no row is `full` or `busy`.
+   A write that is answered TLM_OK_RESPONSE is accepted, so it outlives every cut (tested). One that a cut ends is there up to one of its lines,
+   and not from there on. Where a bank's queue is full, or too many reads wait, b_transport doesn't return: no row is `full` or `busy`.
 
    Two ways of a loosely timed target to keep time:
      exact    b_transport waits, and returns as the module answers. Requests of any number of initiators, and cuts, meet at their own ticks: the
