@@ -8,5 +8,6 @@ mod Along
 mod Law
 mod Deciding
 mod Exhausting
+mod Halting
 mod Turned
 mod Turning
