@@ -1,5 +1,5 @@
 -- What a step of a stream does to what was served before.
-use Rattle.std.proofs.Common.{◌≡◌, ◌≢◌, ◌⊎◌, ℕ, ◌<◌, ◌+◌, ◌&&◌, Bool, true, false, List, ◌∷◌, Option, Some, sym, ap, ◌∙◌, subst, inl, inr, refl}
+use Rattle.std.proofs.Common.{◌≡◌, ◌≢◌, ℕ, ◌<◌, ◌+◌, ◌&&◌, Bool, true, false, List, ◌∷◌, Option, Some, sym, ap, ◌∙◌, subst, inl, inr, refl}
 use Rattle.std.specs.Io.KnownBytes.{Appends, IsAtEnd}
 use Rattle.cell_rows.specs.Device.{ArrayState}
 use Rattle.pcm_io.specs.{Faults.Rose, Giving.AppendsPrefix}

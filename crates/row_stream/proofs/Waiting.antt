@@ -1,14 +1,14 @@
 -- That a source is asked only behind all that is known.
-use Rattle.std.proofs.Common.{◌≡◌, ◌⊎◌, ℕ, zero, suc, Bool, true, false, List, [], ◌++◌, Option, refl, sym, subst, inl, inr}
+use Rattle.std.proofs.Common.{◌≡◌, ◌⊎◌, ℕ, zero, suc, Bool, true, false, List, [], Option, refl, sym, subst, inl, inr}
 use Rattle.std.{specs.Io.KnownBytes.{Appends, IsAtEnd}, proofs.lemmas.List.append-nil}
 use Rattle.cell_rows.specs.Device.{ArrayState}
 use Rattle.pcm_io.proofs.ByteLemmas.{Takes-nothing}
 use Rattle.module_shape.specs.{Limits.total_of, declared.raw.RawShape.RawShape}
 use Rattle.pcm_module.specs.State.{ModuleState}
 use Rattle.row_printer.specs.{Printing.{IsPrinting, Printing, stream_text, text_told}, declared.snapshot.Snapshot.Snapshot, declared.told.Shown.Shown, declared.told.Told.Told}
-use Rattle.trace_stream.{specs.Kept.decides, specs.Stream.Standing, specs.declared.asked.Asked.Asked, proofs.Marks.lacks-none}
-use Rattle.row_stream.specs.{Serving.{IsServing, told_so_far}, Sourcing.{HasAllCome, HasNoHeader}, Stepping.{AsksBehind, TellsNoMore}, Waiting.{HasTold, IsTextOf, TellsFirst}}
-use Rattle.row_stream.{specs.declared.stop.Behind.Behind, proofs.Rows.{HasFed, fed-whole}}
+use Rattle.trace_stream.{specs.Kept.decides, specs.Stream.Standing, proofs.Marks.lacks-none}
+use Rattle.row_stream.specs.{Serving.{IsServing, told_so_far}, Sourcing.{HasAllCome, HasNoHeader}, Stepping.AsksBehind, Waiting.{IsTextOf, TellsFirst}, declared.stop.Behind.Behind}
+use Rattle.row_stream.proofs.Rows.{HasFed, fed-whole}
 
 module _ {n m e : ℕ} (raw : RawShape) (seed : ℕ) {S K : Type 0} (left : S → Option (List ℕ)) (taken faults : S → ℕ) (first : S) (written : K → Option (List ℕ)) (failed : K → ℕ)
     (before : Option (List ℕ)) (start : ℕ) where

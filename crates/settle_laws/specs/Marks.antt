@@ -7,7 +7,8 @@ use Rattle.bank_model.specs.Timing.{TimedEvent}
 use Rattle.bank_timing.specs.Extending.{outcome_in}
 use Rattle.module_shape.specs.{Limits.IsShape, declared.raw.RawShape.RawShape}
 use Rattle.pcm_module.specs.State.{ModuleState}
-use Rattle.row_printer.specs.{Printing.table_of, declared.told.Mark.TheVariants.{Exhausted, Going}, declared.told.Told.Told, declared.told.Told.TheVariants.{Became, Bank, Looked, Settled}}
+use Rattle.row_printer.specs.{Printing.table_of, declared.told.Mark.TheVariants.{Exhausted, Going}, declared.told.Told.Told}
+use Rattle.row_printer.specs.declared.told.Told.TheVariants.{Became, Bank, Looked, Settled}
 use Rattle.trace_stream.specs.{Asked.events_in, declared.asked.Asked.Asked}
 use Rattle.row_stream.specs.{Ending.HasEnded, Serving.{HasServed, TellsAlong, lines_of}}
 use Rattle.settle_laws.specs.Turns.{is_in_bank}

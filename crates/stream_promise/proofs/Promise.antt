@@ -19,9 +19,8 @@ use Rattle.row_stream.specs.{Asking.{BeginsWith, stays_off, tick_reached, with_c
 use Rattle.row_stream.specs.Sourcing.{IsRead, IsReadTo}
 use Rattle.stream_top.specs.{Calls.LentSource, Promises.{Breaks, BreaksOn, Call, Does, DoesOn, KeepsPromises, Stops as StopsCall, StopsOn}}
 use Rattle.stream_top.specs.Streams.{BeginsInPart, BreaksOff, ComeFrom, GoesAsFarAs, IsServed, IsServedInPart, Streams, StreamsInPart, StreamsUpTo, done_by, is_off, shown_by}
-use Rattle.stream_top.specs.{Streams.{stops_at_refusal, told_in_part}, declared.done.Done.Done, declared.fault.Fault.Fault}
-use Rattle.stream_top.specs.declared.fault.Fault.TheVariants.{Usage, Trace, Read, Write, TooLong, NoMemory}
-use Rattle.stream_top.{specs.Waiting.{IsJobText, WaitsAt, WaitsFor, WaitsOn}, proofs.Waiting.tells-so}
+use Rattle.stream_top.specs.{Streams.{stops_at_refusal, told_in_part}, Waiting.{IsJobText, WaitsAt, WaitsFor, WaitsOn}, declared.done.Done.Done, declared.fault.Fault.Fault}
+use Rattle.stream_top.{specs.declared.fault.Fault.TheVariants.{Usage, Trace, Read, Write, TooLong, NoMemory}, proofs.Waiting.tells-so}
 use Rattle.moment_laws.specs.Moments.{MomentLaw}
 use Rattle.settle_laws.specs.{Marks.{EndedMarkLaw, MarkLaw}, Streams.{BegunStreamLaw, WholeStreamLaw}, Turns.{EndedTurnLaw, TurnLaw}}
 use Rattle.snapshot_laws.specs.Rising.{EndedLaw, SoFarLaw}

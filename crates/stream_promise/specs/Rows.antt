@@ -7,11 +7,12 @@ use Rattle.module_shape.specs.declared.raw.RawShape.{RawShape}
 use Rattle.row_rules.specs.declared.Row.{Row}
 use Rattle.right_runs.specs.Tables.{table_in}
 use Rattle.run_text.specs.Counting.{counts_of}
-use Rattle.row_printer.specs.{Printing.{stream_text, table_of}, Refusing.any_refused, Snapshots.AddsDue, Telling.became, declared.snapshot.Snapshot.Snapshot, declared.told.ArrayWear.ArrayWear}
-use Rattle.row_printer.specs.{declared.told.Backlog.Backlog, declared.told.Shown.Shown, declared.told.Told.Told, declared.told.Told.TheVariants.{Bank, Looked, Settled}}
+use Rattle.row_printer.specs.{Printing.{stream_text, table_of}, Refusing.any_refused, Snapshots.AddsDue, Telling.became, declared.snapshot.Snapshot.Snapshot}
+use Rattle.row_printer.specs.{declared.told.ArrayWear.ArrayWear, declared.told.Backlog.Backlog, declared.told.Shown.Shown, declared.told.Told.Told}
+use Rattle.row_printer.specs.declared.told.Told.TheVariants.{Bank, Looked, Settled}
 use Rattle.trace_stream.specs.{Asked.events_in, declared.asked.Asked.Asked, declared.asked.Asked.TheVariants.{Happens, Settle, Query, Look, Until}}
-use Rattle.row_stream.specs.{Asking.{behind_of, cut_if, tick_reached, with_cut}, Reaching.ReachesBy, Serving.{ComeInOrder, is_due_behind}, declared.stop.Behind.Behind}
-use Rattle.row_stream.specs.{Looking.wear_of, declared.stop.Behind.TheVariants.{Nothing, Going, Off}}
+use Rattle.row_stream.specs.{Asking.{behind_of, cut_if, tick_reached, with_cut}, Looking.wear_of, Reaching.ReachesBy, Serving.{ComeInOrder, is_due_behind}}
+use Rattle.row_stream.specs.{declared.stop.Behind.Behind, declared.stop.Behind.TheVariants.{Nothing, Going, Off}}
 use Rattle.stream_words.specs.declared.job.StreamJob.{StreamJob}
 use Rattle.stream_top.specs.Streams.{shown_by}
 use Rattle.moment_laws.specs.{Backlogs.CountsBacklog, Moments.rows_now}

@@ -38,6 +38,10 @@ pub fn run_stream<
     out: Box<K>,
     err: &mut F,
 ) -> (u8, Box<K>)
+    // Each time that the source is asked for a row, all that is known by then was told, and written.
+    ensures waits { WaitsFor IsTextByRows
+        (source_between S.left S.taken S.faults source.old source.new)
+        K.written (K.written out.value) (stream_job_of (map string_bytes words.now)) }
     ensures promises { PromisesByRows (record {
       asked = stream_job_of (map string_bytes words.now);
       array = lent_telling A.state A.changes array.old array.new;
@@ -45,10 +49,6 @@ pub fn run_stream<
       source = source_between S.left S.taken S.faults source.old source.new;
       out = lent_sink K.written K.faults out.value result.1.value;
     }) (lent_sink F.written F.faults err.old err.new) result.0 }
-    // Each time that the source is asked for a row, all that is known by then was told, and written.
-    ensures waits { WaitsFor IsTextByRows
-        (source_between S.left S.taken S.faults source.old source.new)
-        K.written (K.written out.value) (stream_job_of (map string_bytes words.now)) }
 {
     no_moment_loses_bytes();
     streams_settle_for_good::<S>();

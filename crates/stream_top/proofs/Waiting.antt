@@ -1,10 +1,10 @@
 -- That a stream tells before it asks.
-use Rattle.std.proofs.Common.{◌≡◌, ℕ, zero, suc, List, Option, refl, subst}
+use Rattle.std.proofs.Common.{◌≡◌, ℕ, zero, suc, List, Option, subst}
 use Rattle.std.specs.Prelude.{Result, Ok, Err}
 use Rattle.command_line.specs.{declared.job.LineSize.LineSize, declared.job.LineSize.TheVariants.{Bytes64, Bytes128}, declared.job.Refusal.Refusal}
 use Rattle.module_shape.specs.Limits.{total_of}
 use Rattle.row_printer.specs.declared.told.Shown.{Shown}
-use Rattle.row_stream.specs.Waiting.{HasTold, IsTextOf, TellsFirst}
+use Rattle.row_stream.specs.Waiting.{IsTextOf, TellsFirst}
 use Rattle.stream_words.specs.{Jobs.IsStreamJob, declared.job.StreamJob.StreamJob}
 use Rattle.trace_stream.specs.declared.asked.Asked.{Asked}
 use Rattle.stream_top.specs.{Calls.LentSource, Streams.shown_by, Waiting.{IsJobText, WaitsAt, WaitsFor, WaitsOn}}

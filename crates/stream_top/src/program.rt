@@ -121,6 +121,10 @@ pub fn stream_run<
     out: Box<K>,
     err: &mut F,
 ) -> (u8, Box<K>)
+    // Each time that the source is asked for a row, all that is known by then was told, and written.
+    ensures waits { WaitsFor IsJobText
+        (source_between S.left S.taken S.faults source.old source.new)
+        K.written (K.written out.value) (stream_job_of (map string_bytes words.now)) }
     // What was asked for, what was lent, and what became of it: each promise is a field of `KeepsPromises`.
     ensures promises { KeepsPromises (record {
       asked = stream_job_of (map string_bytes words.now);
@@ -129,10 +133,6 @@ pub fn stream_run<
       source = source_between S.left S.taken S.faults source.old source.new;
       out = lent_sink K.written K.faults out.value result.1.value;
     }) (lent_sink F.written F.faults err.old err.new) result.0 }
-    // Each time that the source is asked for a row, all that is known by then was told, and written.
-    ensures waits { WaitsFor IsJobText
-        (source_between S.left S.taken S.faults source.old source.new)
-        K.written (K.written out.value) (stream_job_of (map string_bytes words.now)) }
 {
     let (result, out) = work(alloc, words, array, wide, source, out);
     (say(result, err), out)

@@ -2,7 +2,8 @@ use Rattle.std.proofs.Common.{Err, refl}
 use Rattle.std.specs.Prelude.{map, string_bytes}
 use Rattle.stream_words.specs.Jobs.{stream_job_of}
 use Rattle.program_calls.specs.Calls.{lent_sink}
-use Rattle.stream_top.{specs.Calls.{lent_telling, source_between}, specs.Promises.Call, proofs.Keeping.{refused, refused-breaks, refused-others, refused-unread}, proofs.Waiting.waits-asleep}
+use Rattle.stream_top.{specs.Calls.{lent_telling, source_between}, specs.Promises.Call, proofs.Keeping.{refused, refused-breaks, refused-others, refused-unread}}
+use Rattle.stream_top.proofs.Waiting.{waits-asleep}
 use Rattle.stream_top.proofs.program.work.Goals as goal
 
 pub returns-in-Ok-clause-ends : goal.returns-in-Ok-clause-ends
