@@ -1,20 +1,27 @@
--- A bank that is exhausted, or has halted, stores nothing any more.
-use Rattle.std.proofs.Common.{◌≡◌, ◌⊎◌, ℕ, Bool, true, false, List, [], ◌∷◌, ◌++◌, Option, None, length, inl, inr, refl, sym, ap, subst, ◌∙◌, append_assoc}
-use Rattle.std.{specs.Prelude.{All, is_some, unwrap_or}, proofs.lemmas.List.Elements.{All-nil, All-cons}}
+-- A bank that is exhausted, or has halted, stores nothing any more; and one that has halted alone refuses no write for wear.
+use Rattle.std.proofs.Common.{◌≡◌, ◌⊎◌, ℕ, Bool, true, false, List, [], ◌∷◌, ◌++◌, Option, None, inl, inr, refl, sym, ap, subst, ◌∙◌, append_assoc}
+use Rattle.std.specs.Prelude.{All, is_some, unwrap_or}
 use Rattle.result_rows.specs.declared.Outcome.{Outcome}
 use Rattle.result_rows.specs.declared.Outcome.TheVariants as out
-use Rattle.row_rules.specs.{Answers.is_stored, declared.Asks.Asks, declared.Asks.TheVariants.{Reads, Writes, Cuts}}
-use Rattle.bank_shape.specs.{declared.BankShape.BankShape, declared.pace.Pace.Pace}
+use Rattle.row_rules.specs.{Answers.{is_stored, is_worn}, declared.Asks.Asks, declared.Asks.TheVariants.{Reads, Writes, Cuts}}
+use Rattle.masked_bytes.specs.Entries.{layer_of}
+use Rattle.bank_shape.specs.{declared.BankShape.BankShape, declared.answer.ReadAnswer.ReadAnswer, declared.answer.WriteAnswer.WriteAnswer, declared.pace.Pace.Pace}
 use Rattle.bank_shape.specs.declared.answer.WriteAnswer.TheVariants as wrote
 use Rattle.bank_shape.specs.declared.answer.ReadAnswer.TheVariants as came
 use Rattle.bank_shape.specs.declared.answer.Keep.TheVariants as keep
-use Rattle.bank_model.specs.{Changes.{change_after, change_by, halted_after, halted_by, keeping_after, keeping_by}, Events.{Write, Read, Serve, Begin, Iterate, Cut, RowsBelow}}
-use Rattle.bank_model.specs.{History.{has_exhausted, waits}, Lawful.{Lawful, MayCome}, Timing.{Happens, Core, Regs, KeepBegin, KeepIterate, KeepCut, TimedEvent, core}}
-use Rattle.bank_laws.{specs.Outcomes.{ended, outcome_of, outcome_with}, specs.Standing.has_wait, proofs.Serves.may_at, proofs.Settling.{lawful_before, opens}}
-use Rattle.bank_laws.proofs.Wears.{exhausted_later, lost_not_stored, not_stored, stored_before_exhausted}
-use Rattle.module_laws.specs.Asking.{Asked, AreAsked, IsAsked}
+use Rattle.bank_model.specs.Changes.{change_after, change_by, halted_after, halted_by, keeping_after, keeping_by}
+use Rattle.bank_model.specs.{Events.{Write, Read, Serve, Begin, Iterate, Cut, RowsBelow, newest}, History.{awaited, has_exhausted, queue, waits}, Lawful.{Lawful, MayCome}}
+use Rattle.bank_model.specs.Timing.{Happens, Core, Regs, KeepBegin, KeepIterate, KeepCut, TimedEvent, core, core_of}
+use Rattle.bank_laws.{specs.Outcomes.{ended, outcome_of, outcome_with}, specs.Standing.has_wait, proofs.Ending.{Onwards, own_answer, write_outcome}}
+use Rattle.bank_laws.proofs.{Fates.{IsSettled, ReadFate, awaits-has, awaits-new}, Settling.{lawful_before, opens}}
+use Rattle.bank_laws.proofs.Wears.{exhausted_later, lost_not_stored, not_stored, refused-exhausted, stored_before_exhausted, worn_outcome}
+use Rattle.module_laws.specs.Asking.{Asked, AreAsked}
 use Rattle.pcm_module.specs.Replaying.{outcome_so_far}
-use Rattle.settle_laws.proofs.{Banks.known_of, Parting.{front-same, sized}}
+use Rattle.settle_laws.proofs.{Banks.known_of, Coming.each-later}
+
+no-change : (change : Option ℕ) → is_some change ≡ true → change ≡ None → ⊥
+no-change None stands is = absurd (cc stands)
+no-change _ stands is = absurd (cc is)
 
 module _ {n m : ℕ} (shape : BankShape) (pace : Pace) (e : ℕ) where
   -- the writing of a change has ended at a worn control line, and so the change stands
@@ -26,10 +33,6 @@ module _ {n m : ℕ} (shape : BankShape) (pace : Pace) (e : ℕ) where
   -- and behind what happens, after these events
   abbrev Halts : List (TimedEvent n m) → Happens n → Type 0
   Halts zs h = (is_some (change_by shape (core zs) h (change_after shape zs)) ≡ true) × (keeping_by h (keeping_after zs) ≡ false) × (halted_by h (halted_after zs) ≡ true)
-
-  no-change : (change : Option ℕ) → is_some change ≡ true → change ≡ None → ⊥
-  no-change None stands is = absurd (cc stands)
-  no-change _ stands is = absurd (cc is)
 
   -- it stays so
   halts-on : (zs : List (TimedEvent n m)) (x : TimedEvent n m) (h : Happens n) → MayCome shape pace e zs x h → IsHalted zs → Halts zs h
@@ -138,57 +141,106 @@ module _ {n m : ℕ} (shape : BankShape) (pace : Pace) (e : ℕ) (xs : List (Tim
       by (Writes line bytes given) unset = leaves over a (Writes line bytes given) (none unset)
       by Cuts unset = absurd (cc unset)
 
-  -- what was asked, in two parts: the history asked for the earlier one, and no row of the later one comes to a store
-  abbrev IsParted : List (Asked n) → Type 0
-  IsParted asked = (late : List (Asked n)) × (early : List (Asked n)) × (asked ≡ late ++ early) × AreAsked xs early × All Is late
-
-  grown : (a : Asked n) (asked : List (Asked n)) → Is a → IsParted asked → IsParted (a ∷ asked)
-  grown a asked own p = (a ∷ p.0, p.1, ap (λ (asked : List (Asked n)). a ∷ asked) p.2, p.3, All-cons Is a p.0 own p.4)
-
-  walk : (later since : List (TimedEvent n m)) → all ≡ later ++ (since ++ xs) → (asked : List (Asked n)) → AreAsked (since ++ xs) asked → IsParted asked
-  walk later [] same asked are = ([], asked, refl, are, All-nil Is)
-  walk later (x ∷ since) same asked are =
-      by x.happens x.cancels asked (may_at shape pace e all later x (since ++ xs) l same) are
-      (λ rest own. walk (later ++ x ∷ []) since (same ∙ sym (append_assoc later (x ∷ []) (since ++ xs))) rest own)
-    where
-      -- the history before the event, and all that comes behind that
-      split : all ≡ (later ++ x ∷ []) ++ (since ++ xs)
-      split = same ∙ sym (append_assoc later (x ∷ []) (since ++ xs))
-
-      lawful : Lawful shape pace e ((later ++ x ∷ []) ++ (since ++ xs))
-      lawful = subst (λ (ys : List (TimedEvent n m)). Lawful shape pace e ys) split l
-
-      earlier : Lawful shape pace e (since ++ xs)
-      earlier = lawful_before shape pace e (later ++ x ∷ []) (since ++ xs) lawful
-
-      none : (row : ℕ) → RowsBelow (core (since ++ xs)) row → (u p : ℕ) → outcome_of shape all row ≡ out.Stored u p → ⊥
-      none row below u p stored =
-          let before : outcome_of shape (since ++ xs) row ≡ out.Stored u p =
-          stored-before shape pace e (later ++ x ∷ []) (since ++ xs) row u p lawful (over-later shape pace e since xs earlier is)
-          (ap (λ (ys : List (TimedEvent n m)). outcome_of shape ys row) (sym split) ∙ stored) in
-          let no : ◌≡◌ {A = Outcome n} out.Unset (out.Stored u p) = sym ((opens shape pace e (since ++ xs) earlier).coming row below) ∙ before in
-          absurd (cc no)
-
-      by : (h : Happens n) (cancels : Bool) (asked : List (Asked n)) → MayCome shape pace e (since ++ xs) x h
-          → IsAsked h cancels x.tick (AreAsked (since ++ xs)) asked → ((rest : List (Asked n)) → AreAsked (since ++ xs) rest → IsParted rest) → IsParted asked
-      by (Core (Write row line bytes given answer)) cancels [] may are ih = absurd are
-      by (Core (Write row line bytes given answer)) cancels (a ∷ asked) may are ih =
-          grown a asked
-          (subst Is (sym are.0) (leaves over (record { row = row; tick = x.tick; asks = Writes line bytes given }) (Writes line bytes given) (none row may.asked))) (ih asked are.1)
-      by (Core (Read row line answer)) cancels [] may are ih = absurd are
-      by (Core (Read row line answer)) cancels (a ∷ asked) may are ih =
-          grown a asked (subst Is (sym are.0) (leaves over (record { row = row; tick = x.tick; asks = Reads line }) (Reads line) (none row may.asked))) (ih asked are.1)
-      by (Core (Cut tearing)) false [] may are ih = absurd are
-      by (Core (Cut tearing)) false (a ∷ asked) may are ih = grown a asked (subst (λ (asks : Asks n). Leaves a asks) (sym are.1) (cut over a)) (ih asked are.2)
-        where
-          cut : (over : Bool) (a : Asked n) → is_stored (known_of over shape all a Cuts) ≡ false
-          cut true a = refl
-          cut false a = refl
-      by _ _ asked may are ih = ih asked are
+  -- a row that comes later, as it comes
+  none-coming : (later since : List (TimedEvent n m)) (x : TimedEvent n m) → all ≡ later ++ x ∷ (since ++ xs) → (row : ℕ) → RowsBelow (core (since ++ xs)) row
+      → (u p : ℕ) → outcome_of shape all row ≡ out.Stored u p → ⊥
+  none-coming later since x same row below u p stored =
+      let split : all ≡ (later ++ x ∷ []) ++ (since ++ xs) = same ∙ sym (append_assoc later (x ∷ []) (since ++ xs)) in
+      let lawful : Lawful shape pace e ((later ++ x ∷ []) ++ (since ++ xs)) = subst (λ (ys : List (TimedEvent n m)). Lawful shape pace e ys) split l in
+      let earlier : Lawful shape pace e (since ++ xs) = lawful_before shape pace e (later ++ x ∷ []) (since ++ xs) lawful in
+      let before : outcome_of shape (since ++ xs) row ≡ out.Stored u p =
+      stored-before shape pace e (later ++ x ∷ []) (since ++ xs) row u p lawful (over-later shape pace e since xs earlier is)
+      (ap (λ (ys : List (TimedEvent n m)). outcome_of shape ys row) (sym split) ∙ stored) in
+      let no : ◌≡◌ {A = Outcome n} out.Unset (out.Stored u p) = sym ((opens shape pace e (since ++ xs) earlier).coming row below) ∙ before in
+      absurd (cc no)
 
   -- no row that comes later does
   pub left-later : (since : List (TimedEvent n m)) → all ≡ since ++ xs → (later asked : List (Asked n)) → AreAsked (since ++ xs) (later ++ asked) → AreAsked xs asked → All Is later
-  left-later since same later asked both own =
-      let p = walk [] since same (later ++ asked) both in
-      let size : length asked ≡ length p.1 = sized xs asked own ∙ sym (sized xs p.1 p.3) in
-      subst (All Is) (sym (front-same later asked p.0 p.1 p.2 size)) p.4
+  left-later =
+      each-later shape pace e xs all l Is
+      (λ later since x same row line bytes given answer may on.
+      leaves over (record { row = row; tick = x.tick; asks = Writes line bytes given }) (Writes line bytes given) (none-coming later since x same row may.asked))
+      (λ later since x same row line answer may on. leaves over (record { row = row; tick = x.tick; asks = Reads line }) (Reads line) (none-coming later since x same row may.asked))
+      (λ a is_cut. subst (λ (asks : Asks n). Leaves a asks) (sym is_cut) (cut over a))
+    where
+      cut : (over : Bool) (a : Asked n) → is_stored (known_of over shape all a Cuts) ≡ false
+      cut true a = refl
+      cut false a = refl
+
+worn-ended : {n : ℕ} (tick : ℕ) (o : Outcome n) → is_worn (ended tick o) ≡ is_worn o
+worn-ended tick out.Unset = refl
+worn-ended tick _ = refl
+
+settled-whole : {n : ℕ} (owed : List ℕ) (o : Outcome n) → IsSettled owed o → is_worn o ≡ false
+settled-whole owed (out.Read tick place bytes) settled = refl
+settled-whole owed (out.Lost tick) settled = refl
+settled-whole owed _ settled = absurd settled
+
+-- a bank that has halted, and isn't exhausted, refuses no write for wear
+module _ {n m : ℕ} (shape : BankShape) (pace : Pace) (e : ℕ) (xs : List (TimedEvent n m)) (halted : IsHalted shape pace e xs) (fresh : has_exhausted (core xs) ≡ false)
+    (all : List (TimedEvent n m)) (l : Lawful shape pace e all) (over : Bool) where
+  -- it never is
+  fresh-on : (zs : List (TimedEvent n m)) (x : TimedEvent n m) (h : Happens n) → MayCome shape pace e zs x h → IsHalted shape pace e zs → has_exhausted (core zs) ≡ false
+      → has_exhausted (core_of h (core zs)) ≡ false
+  fresh-on zs x (Core (Begin answer)) may is no = absurd (no-change (change_after shape zs) is.stands may.on_time.2)
+  fresh-on zs x (Core (Iterate answer)) may is no = absurd (no-change (change_after shape zs) is.stands may.on_time.2)
+  fresh-on zs x _ may is no = no
+
+  fresh-later : (since : List (TimedEvent n m)) → Lawful shape pace e (since ++ xs) → has_exhausted (core (since ++ xs)) ≡ false
+  fresh-later [] lawful = fresh
+  fresh-later (x ∷ since) lawful = fresh-on (since ++ xs) x x.happens lawful.0 (halted-later shape pace e since xs lawful.1 halted) (fresh-later since lawful.1)
+
+  abbrev IsWhole : Asked n → Type 0
+  IsWhole a = is_worn (known_of over shape all a a.asks) ≡ false
+
+  of-write : (over : Bool) (a : Asked n) (line : ℕ) (bytes : List ℕ) (given : List Bool) → is_worn (ended a.tick (outcome_of shape all a.row)) ≡ false → is_worn (known_of over shape all a (Writes line bytes given)) ≡ false
+  of-write true a line bytes given no = no
+  of-write false a line bytes given no = sym (worn-ended a.tick (outcome_of shape all a.row)) ∙ no
+
+  of-read : (over : Bool) (a : Asked n) (line : ℕ) → is_worn (outcome_of shape all a.row) ≡ false → is_worn (known_of over shape all a (Reads line)) ≡ false
+  of-read true a line no = no
+  of-read false a line no = no
+
+  of-cut : (over : Bool) (a : Asked n) → is_worn (known_of over shape all a Cuts) ≡ false
+  of-cut true a = refl
+  of-cut false a = refl
+
+  taken : (later since : List (TimedEvent n m)) (x : TimedEvent n m) → all ≡ later ++ x ∷ (since ++ xs) → (row line : ℕ) (bytes : List ℕ) (given : List Bool) (answer : WriteAnswer)
+      → MayCome shape pace e (since ++ xs) x (Core (Write row line bytes given answer)) → Onwards shape all (since ++ xs) x.tick (Core (Write row line bytes given answer))
+      → is_worn (ended x.tick (outcome_of shape all row)) ≡ false
+  taken later since x same row line bytes given answer may on = by (is_worn (ended x.tick (outcome_of shape all row))) refl
+    where
+      split : all ≡ (later ++ x ∷ []) ++ (since ++ xs)
+      split = same ∙ sym (append_assoc later (x ∷ []) (since ++ xs))
+
+      earlier : Lawful shape pace e (since ++ xs)
+      earlier = lawful_before shape pace e (later ++ x ∷ []) (since ++ xs) (subst (λ (ys : List (TimedEvent n m)). Lawful shape pace e ys) split l)
+
+      by : (b : Bool) → is_worn (ended x.tick (outcome_of shape all row)) ≡ b → is_worn (ended x.tick (outcome_of shape all row)) ≡ false
+      by false is = is
+      by true is =
+          let refused : answer ≡ wrote.Exhausted =
+          worn_outcome x.tick answer (ended x.tick (outcome_of shape all row)) (write_outcome shape pace e all (since ++ xs) x row line bytes given answer (opens shape pace e all l) may on) is in
+          let exhausted : has_exhausted (core (since ++ xs)) ≡ true = refused-exhausted shape (core (since ++ xs)) line (sym refused ∙ may.may.2) in
+          let no : true ≡ false = sym exhausted ∙ fresh-later since earlier in
+          absurd (cc no)
+
+  came-in : (since : List (TimedEvent n m)) (x : TimedEvent n m) (row line : ℕ) (answer : ReadAnswer n) → Onwards shape all (since ++ xs) x.tick (Core (Read row line answer)) → is_worn (outcome_of shape all row) ≡ false
+  came-in since x row line (came.Forwarded bytes) on =
+      ap is_worn (own_answer shape pace e all (since ++ xs) x (Core (Read row line (came.Forwarded bytes))) row (out.Forwarded x.tick bytes) on refl (λ is. absurd (cc)))
+  came-in since x row line came.Busy on = ap is_worn (own_answer shape pace e all (since ++ xs) x (Core (Read row line came.Busy)) row (out.Busy x.tick) on refl (λ is. absurd (cc)))
+  came-in since x row line came.Waiting on =
+      by (on.reads row (newest (core (since ++ xs)) line)
+      (inl (awaits-new (waits shape (core (since ++ xs))) (awaited row line (newest (core (since ++ xs)) line) (layer_of (queue shape (core (since ++ xs))) line)))))
+    where
+      by : ReadFate shape all row (newest (core (since ++ xs)) line) → is_worn (outcome_of shape all row) ≡ false
+      by (inl awaits) = ap is_worn ((opens shape pace e all l).waiting row (awaits-has (waits shape (core all)) row (newest (core (since ++ xs)) line) awaits))
+      by (inr settled) = settled-whole (newest (core (since ++ xs)) line) (outcome_of shape all row) settled
+
+  pub taken-later : (since : List (TimedEvent n m)) → all ≡ since ++ xs → (later asked : List (Asked n)) → AreAsked (since ++ xs) (later ++ asked) → AreAsked xs asked → All IsWhole later
+  taken-later =
+      each-later shape pace e xs all l IsWhole
+      (λ later since x same row line bytes given answer may on.
+      of-write over (record { row = row; tick = x.tick; asks = Writes line bytes given }) line bytes given (taken later since x same row line bytes given answer may on))
+      (λ later since x same row line answer may on. of-read over (record { row = row; tick = x.tick; asks = Reads line }) line (came-in since x row line answer on))
+      (λ a is_cut. subst (λ (asks : Asks n). is_worn (known_of over shape all a asks) ≡ false) (sym is_cut) (of-cut over a))

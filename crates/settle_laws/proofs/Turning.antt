@@ -5,7 +5,7 @@ use Rattle.std.proofs.lemmas.List.Elements.{All-append, All-cons, All-head, All-
 use Rattle.trace_reader.specs.declared.event.Event.{Event}
 use Rattle.result_rows.specs.{Outcomes.tick_of, declared.Outcome.Outcome}
 use Rattle.result_rows.specs.declared.Outcome.TheVariants as out
-use Rattle.row_rules.specs.{Answers.{accepts, is_stored}, Lines.IsOfLines, Table.is_of}
+use Rattle.row_rules.specs.{Answers.{accepts, is_stored, is_worn}, Lines.IsOfLines, Table.is_of}
 use Rattle.bank_shape.specs.declared.BankShape.{BankShape}
 use Rattle.trace_rows.specs.Rows.{asks_of}
 use Rattle.bank_model.specs.{Changes.halted_after, History.has_exhausted, Lawful.Lawful, Timing.{TimedEvent, core, last_tick}}
@@ -16,11 +16,12 @@ use Rattle.bank_timing.specs.Extending.{outcome_in}
 use Rattle.right_runs.specs.Banks.{bank_of_line, line_in_bank, pacing_in}
 use Rattle.run_laws.proofs.Mixing.{lines_law}
 use Rattle.pcm_module.specs.{Asking.{asked_by, asked_for}, Replaying.ReplaysIn, State.{bank_at, first_bank}, Telling.{comes_to, is_asked_of}}
-use Rattle.row_printer.specs.{Printing.table_of, declared.told.Mark.TheVariants.{Exhausted, Going}, declared.told.Told.Told, declared.told.Told.TheVariants.{Bank, Looked, Settled}}
+use Rattle.row_printer.specs.{Printing.table_of, declared.told.Mark.TheVariants.{Exhausted, Going, Halted}, declared.told.Told.Told}
+use Rattle.row_printer.specs.declared.told.Told.TheVariants.{Bank, Looked, Settled}
 use Rattle.trace_stream.specs.{Asked.events_in, declared.asked.Asked.Asked as StreamAsked, declared.asked.Asked.TheVariants.{Happens as IsEvent, Settle, Query, Look, Until}}
 use Rattle.row_stream.specs.{Answering.{backlog_of, banks_told, mark_of}, Asking.tick_reached, Looking.wear_of, Serving.{AreKnown, TellsAlong, lines_of}}
 use Rattle.settle_laws.specs.{Marks.{AreMarksTrue, EndedMarkLaw, IsTrueMark, MarkLaw}, Turns.{AreInTurn, EndedTurnLaw, TellsInTurn, TurnLaw, comes_in, is_decided, is_in_bank}}
-use Rattle.settle_laws.proofs.{Along.events-both, Banks.{IsRight, known_of}, Exhausting.rejected, Halting.{IsOver, halted-now, left-before, left-later}}
+use Rattle.settle_laws.proofs.{Along.events-both, Banks.{IsRight, known_of}, Exhausting.rejected, Halting.{IsHalted, IsOver, halted-now, left-before, left-later, taken-later}}
 use Rattle.settle_laws.proofs.Rows.{Goes, all-second, each-place, each-row, front-asked, goes-finished, goes-so-far, in-front, own-both, row-of}
 use Rattle.settle_laws.proofs.Turned.{IsTurned, bank-turned, from-before, from-told, of-bank-row}
 
@@ -66,6 +67,11 @@ marked-exhausted : (exhausted halted : Bool) → mark_of exhausted halted ≡ Ex
 marked-exhausted true halted is = refl
 marked-exhausted false true is = absurd (cc is)
 marked-exhausted false false is = absurd (cc is)
+
+marked-halted : (exhausted halted : Bool) → mark_of exhausted halted ≡ Halted → (exhausted ≡ false) × (halted ≡ true)
+marked-halted true halted is = absurd (cc is)
+marked-halted false true is = (refl, refl)
+marked-halted false false is = absurd (cc is)
 
 marked-over : (exhausted halted : Bool) → mark_of exhausted halted ≢ Going → (exhausted ≡ true) ⊎ (halted ≡ true)
 marked-over true halted is = inl refl
@@ -199,6 +205,17 @@ module _ {n m : ℕ} (e : ℕ) (raw : RawShape) (seed : ℕ) (is : IsShape raw) 
             ap accepts (all-first Recorded (own-later bank) (own bank) recorded k d below)
             ∙ rejected shape (pacing_in raw) e (h bank) exhausted all lawful over (since bank) refl (own-later bank) (own bank) asked (then-goes.asked bank exists) k d below
 
+    -- where it had halted and wasn't exhausted no write of it is refused for wear
+    no-refusal : IsHalted shape (pacing_in raw) e (h bank) → has_exhausted (core (h bank)) ≡ false → (k : ℕ) → length events < k
+        → is_asked_of (home raw seed) bank (asked_for (later ++ events)) k ≡ true → is_worn (outcome k) ≡ false
+    no-refusal halted fresh k behind is =
+        of-bank-row (home raw seed) (number raw seed) bank (λ k. is_worn (outcome k) ≡ false) (in-front later events) each k (front-row (home raw seed) bank later events k behind is)
+      where
+        each : All (λ (a : Asked n). is_worn (outcome a.row) ≡ false) (own-later bank)
+        each = λ k d below.
+            ap is_worn (all-first Recorded (own-later bank) (own bank) recorded k d below)
+            ∙ taken-later shape (pacing_in raw) e (h bank) halted fresh all lawful over (since bank) refl (own-later bank) (own bank) asked (then-goes.asked bank exists) k d below
+
     -- where it was exhausted or had halted nothing of it is stored that had no outcome
     no-store : IsOver shape (pacing_in raw) e (h bank) → (k : ℕ) → is_asked_of (home raw seed) bank (asked_for (later ++ events)) k ≡ true → outcome_in results k ≡ out.Unset → is_stored (outcome k) ≡ false
     no-store is_over =
@@ -227,7 +244,8 @@ module _ {n m : ℕ} (e : ℕ) (raw : RawShape) (seed : ℕ) (is : IsShape raw) 
       → IsTrueLine whole (Bank tick (backlog_of bank (bank_at known.module_ bank)))
   bank-line whole same tick bank there exists = (
     λ marked k is unset. no-store bank exists (over-by (marked-over _ _ marked)) k (of-all k is) unset,
-    λ marked k behind is. no-write bank exists (by-exhausted (marked-exhausted _ _ marked)) k behind (of-all k is),
+    λ marked k behind is. no-write bank exists (by-exhausted true (marked-exhausted _ _ marked)) k behind (of-all k is),
+    λ marked k behind is. let alone = marked-halted _ _ marked in no-refusal bank exists (by-halted alone.1) (by-exhausted false alone.0) k behind (of-all k is),
   )
     where
       of-all : (k : ℕ) → is_in_bank raw seed whole bank k ≡ true → is_asked_of (home raw seed) bank (asked_for (later ++ events)) k ≡ true
@@ -236,24 +254,27 @@ module _ {n m : ℕ} (e : ℕ) (raw : RawShape) (seed : ℕ) (is : IsShape raw) 
       clock : ClockState n m e
       clock = bank_at known.module_ bank
 
-      exhausted-then : (o : Option (ClockState n m e)) → IsSomeAnd o (ReplaysIn known.module_ bank (h bank) (asked_for events) known.array results)
-          → (unwrap_or o (first_bank known.module_.shape bank)).bank.kept.exhausted ≡ true → has_exhausted (core (h bank)) ≡ true
-      exhausted-then None in_bank marked = absurd in_bank
-      exhausted-then (Some clock) in_bank marked = sym in_bank.leads.holds.exhausted ∙ marked
+      exhausted-then : (mark : Bool) (o : Option (ClockState n m e)) → IsSomeAnd o (ReplaysIn known.module_ bank (h bank) (asked_for events) known.array results)
+          → (unwrap_or o (first_bank known.module_.shape bank)).bank.kept.exhausted ≡ mark → has_exhausted (core (h bank)) ≡ mark
+      exhausted-then mark None in_bank marked = absurd in_bank
+      exhausted-then mark (Some clock) in_bank marked = sym in_bank.leads.holds.exhausted ∙ marked
 
       halted-then : (o : Option (ClockState n m e)) → IsSomeAnd o (ReplaysIn known.module_ bank (h bank) (asked_for events) known.array results)
           → (unwrap_or o (first_bank known.module_.shape bank)).regs.halted ≡ true → halted_after (h bank) ≡ true
       halted-then None in_bank marked = absurd in_bank
       halted-then (Some clock) in_bank marked = sym in_bank.leads.regs.halted ∙ marked
 
-      by-exhausted : clock.bank.kept.exhausted ≡ true → has_exhausted (core (h bank)) ≡ true
-      by-exhausted = exhausted-then (slice_get known.module_.banks bank) (known.served.replays.banks bank there)
+      by-exhausted : (mark : Bool) → clock.bank.kept.exhausted ≡ mark → has_exhausted (core (h bank)) ≡ mark
+      by-exhausted mark = exhausted-then mark (slice_get known.module_.banks bank) (known.served.replays.banks bank there)
+
+      by-halted : clock.regs.halted ≡ true → IsHalted (bank_shape (module_of raw) bank) (pacing_in raw) e (h bank)
+      by-halted halted =
+          halted-now (bank_shape (module_of raw) bank) (pacing_in raw) e (h bank) (then-goes.lawful bank exists)
+          (halted-then (slice_get known.module_.banks bank) (known.served.replays.banks bank there) halted)
 
       over-by : (clock.bank.kept.exhausted ≡ true) ⊎ (clock.regs.halted ≡ true) → IsOver (bank_shape (module_of raw) bank) (pacing_in raw) e (h bank)
-      over-by (inl exhausted) = inl (by-exhausted exhausted)
-      over-by (inr halted) =
-          inr (halted-now (bank_shape (module_of raw) bank) (pacing_in raw) e (h bank) (then-goes.lawful bank exists)
-          (halted-then (slice_get known.module_.banks bank) (known.served.replays.banks bank there) halted))
+      over-by (inl exhausted) = inl (by-exhausted true exhausted)
+      over-by (inr halted) = inr (by-halted halted)
 
   banks-lines : (whole : List (StreamAsked n)) → later ++ events ≡ events_in whole → (tick banks : ℕ) → banks ≤ known.module_.shape.banks
       → All (IsTrueLine whole) (banks_told known.module_ tick banks)

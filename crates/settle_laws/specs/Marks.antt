@@ -2,24 +2,25 @@
 use Rattle.std.specs.Prelude.{◌≡◌, ◌≢◌, ℕ, ◌<◌, Bool, IsFalse, IsTrue, List, [], ◌∷◌, All, length}
 use Rattle.cell_rows.specs.Device.{ArrayState}
 use Rattle.result_rows.specs.{declared.Outcome.Outcome, declared.Outcome.TheVariants.Unset}
-use Rattle.row_rules.specs.Answers.{accepts, is_stored}
+use Rattle.row_rules.specs.Answers.{accepts, is_stored, is_worn}
 use Rattle.bank_model.specs.Timing.{TimedEvent}
 use Rattle.bank_timing.specs.Extending.{outcome_in}
 use Rattle.module_shape.specs.{Limits.IsShape, declared.raw.RawShape.RawShape}
 use Rattle.pcm_module.specs.State.{ModuleState}
-use Rattle.row_printer.specs.{Printing.table_of, declared.told.Mark.TheVariants.{Exhausted, Going}, declared.told.Told.Told}
+use Rattle.row_printer.specs.{Printing.table_of, declared.told.Mark.TheVariants.{Exhausted, Going, Halted}, declared.told.Told.Told}
 use Rattle.row_printer.specs.declared.told.Told.TheVariants.{Became, Bank, Looked, Settled}
 use Rattle.trace_stream.specs.{Asked.events_in, declared.asked.Asked.Asked}
 use Rattle.row_stream.specs.{Ending.HasEnded, Serving.{HasServed, TellsAlong, lines_of}}
 use Rattle.settle_laws.specs.Turns.{is_in_bank}
 
--- behind so many rows of these, of which this was known, a line: a bank that it marks stores nothing any more, neither what has no outcome yet nor what comes later; and of one that it
--- tells as exhausted no write that comes later is accepted
+-- behind so many rows of these, of which this was known, a line: a bank that it marks stores nothing any more, neither what has no outcome yet nor what comes later. Of one that it tells
+-- as exhausted no write that comes later is accepted, and of one that it tells as halted none is refused for wear
 abbrev pub IsTrueMark : {n : ℕ} (raw : RawShape) (seed : ℕ) (whole : List (Asked n)) (by_then in_the_end : ℕ → Outcome n) → ℕ → Told n → Type 0
 IsTrueMark raw seed whole by_then in_the_end rows (Bank tick backlog) =
     backlog.bank < raw.banks
     → (backlog.mark ≢ Going → (number : ℕ) → IsTrue (is_in_bank raw seed whole backlog.bank number) → by_then number ≡ Unset → IsFalse (is_stored (in_the_end number)))
     × (backlog.mark ≡ Exhausted → (number : ℕ) → rows < number → IsTrue (is_in_bank raw seed whole backlog.bank number) → IsFalse (accepts (in_the_end number)))
+    × (backlog.mark ≡ Halted → (number : ℕ) → rows < number → IsTrue (is_in_bank raw seed whole backlog.bank number) → IsFalse (is_worn (in_the_end number)))
 IsTrueMark raw seed whole by_then in_the_end rows (Became row outcome) = Unit {0}
 IsTrueMark raw seed whole by_then in_the_end rows (Looked tick wear) = Unit {0}
 IsTrueMark raw seed whole by_then in_the_end rows (Settled tick) = Unit {0}
