@@ -13,7 +13,7 @@ pub mod Tables
 pub mod Ends
 mod Rows
 mod Steps
-mod Waiting
+mod Telling
 mod Draws
 mod Decided
 pub mod Refusals

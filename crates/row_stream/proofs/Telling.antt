@@ -10,7 +10,7 @@ use Rattle.trace_stream.{specs.Kept.decides, specs.Stream.Standing, proofs.Marks
 use Rattle.row_stream.specs.{Serving.{IsServing, told_so_far}, Sourcing.{HasAllCome, HasNoHeader}, Stepping.AsksBehind, Waiting.{IsTextOf, TellsFirst}, declared.stop.Behind.Behind}
 use Rattle.row_stream.proofs.Rows.{HasFed, fed-whole}
 
-module _ {n m e : ℕ} (raw : RawShape) (seed : ℕ) {S K : Type 0} (left : S → Option (List ℕ)) (taken faults : S → ℕ) (first : S) (written : K → Option (List ℕ)) (failed : K → ℕ)
+module _ (n m e : ℕ) (raw : RawShape) (seed : ℕ) {S K : Type 0} (left : S → Option (List ℕ)) (taken faults : S → ℕ) (first : S) (written : K → Option (List ℕ)) (failed : K → ℕ)
     (before : Option (List ℕ)) (start : ℕ) where
   -- so often it was asked, where this is shown
   abbrev pub Tells : Shown → S → Type 0
@@ -21,16 +21,18 @@ module _ {n m e : ℕ} (raw : RawShape) (seed : ℕ) {S K : Type 0} (left : S �
       → IsServing raw seed [] module_ array places told shown snaps → Appends before (written sink) (stream_text shown told snaps) → Tells shown new
   tells-header module_ array places told shown snaps new sink serving wrote = (
     suc zero,
-    first,
-    refl,
-    record {
-      asked = [];
-      come = inr (inl (record { bytes = []; takes = Takes-nothing _ _; lacks = lacks-none; none = refl }));
-      text = stream_text shown told snaps;
-      told = record { telling = told_so_far serving; snapshots = snaps; snaps = serving.snaps; is = refl };
-      sink = sink;
-      written = wrote;
-    },
+    (
+      first,
+      refl,
+      record {
+        asked = [];
+        come = inr (inl (record { bytes = []; takes = Takes-nothing _ _; lacks = lacks-none; none = refl }));
+        text = stream_text shown told snaps;
+        told = record { telling = told_so_far serving; snapshots = snaps; snaps = serving.snaps; is = refl };
+        sink = sink;
+        written = wrote;
+      },
+    ),
   )
 
   module _ {stops : Bool} (module_ : ModuleState n m e) (array : ArrayState n m) (out : Printing n K) (mid : S) (stream : Standing) (behind : Behind) (count : ℕ)
@@ -57,16 +59,18 @@ module _ {n m e : ℕ} (raw : RawShape) (seed : ℕ) {S K : Type 0} (left : S �
         let by = is.1 in
         let same = is.2 in (
           suc tells.0,
-          mid,
-          tells.1,
-          record {
-            asked = had.asked;
-            come = come ends is.0;
-            text = text_told by;
-            told =
-                subst (λ (s : Shown). IsTextOf n m e raw seed s had.asked (text_told by)) prints
-                (record { telling = told_so_far had.serving; snapshots = out.snapshots; snaps = had.serving.snaps; is = rw (same.prints, same.told, same.snapshots) refl });
-            sink = by.sink;
-            written = is.3 before start printing;
-          },
+          (
+            mid,
+            tells.1,
+            record {
+              asked = had.asked;
+              come = come ends is.0;
+              text = text_told by;
+              told =
+                  subst (λ (s : Shown). IsTextOf n m e raw seed s had.asked (text_told by)) prints
+                  (record { telling = told_so_far had.serving; snapshots = out.snapshots; snaps = had.serving.snaps; is = rw (same.prints, same.told, same.snapshots) refl });
+              sink = by.sink;
+              written = is.3 before start printing;
+            },
+          ),
         )
