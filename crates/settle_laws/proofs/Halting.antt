@@ -182,9 +182,9 @@ module _ {n m : ℕ} (shape : BankShape) (pace : Pace) (e : ℕ) (xs : List (Tim
   -- it never is
   fresh-on : (zs : List (TimedEvent n m)) (x : TimedEvent n m) (h : Happens n) → MayCome shape pace e zs x h → IsHalted shape pace e zs → has_exhausted (core zs) ≡ false
       → has_exhausted (core_of h (core zs)) ≡ false
-  fresh-on zs x (Core (Begin answer)) may is no = absurd (no-change (change_after shape zs) is.stands may.on_time.2)
-  fresh-on zs x (Core (Iterate answer)) may is no = absurd (no-change (change_after shape zs) is.stands may.on_time.2)
-  fresh-on zs x _ may is no = no
+  fresh-on zs x (Core (Begin answer)) may is none = absurd (no-change (change_after shape zs) is.stands may.on_time.2)
+  fresh-on zs x (Core (Iterate answer)) may is none = absurd (no-change (change_after shape zs) is.stands may.on_time.2)
+  fresh-on zs x _ may is none = none
 
   fresh-later : (since : List (TimedEvent n m)) → Lawful shape pace e (since ++ xs) → has_exhausted (core (since ++ xs)) ≡ false
   fresh-later [] lawful = fresh
@@ -194,12 +194,12 @@ module _ {n m : ℕ} (shape : BankShape) (pace : Pace) (e : ℕ) (xs : List (Tim
   IsWhole a = is_worn (known_of over shape all a a.asks) ≡ false
 
   of-write : (over : Bool) (a : Asked n) (line : ℕ) (bytes : List ℕ) (given : List Bool) → is_worn (ended a.tick (outcome_of shape all a.row)) ≡ false → is_worn (known_of over shape all a (Writes line bytes given)) ≡ false
-  of-write true a line bytes given no = no
-  of-write false a line bytes given no = sym (worn-ended a.tick (outcome_of shape all a.row)) ∙ no
+  of-write true a line bytes given none = none
+  of-write false a line bytes given none = sym (worn-ended a.tick (outcome_of shape all a.row)) ∙ none
 
   of-read : (over : Bool) (a : Asked n) (line : ℕ) → is_worn (outcome_of shape all a.row) ≡ false → is_worn (known_of over shape all a (Reads line)) ≡ false
-  of-read true a line no = no
-  of-read false a line no = no
+  of-read true a line none = none
+  of-read false a line none = none
 
   of-cut : (over : Bool) (a : Asked n) → is_worn (known_of over shape all a Cuts) ≡ false
   of-cut true a = refl
