@@ -280,7 +280,7 @@ module _ {n m e : ℕ} {stops : Bool} (raw : RawShape) (seed : ℕ) {S : Type 0}
     far-late Endless is calm = absurd is
 
     -- all rows that came whole
-    fed-whole : (new : S) (bytes : List ℕ) → Takes (left mid) (left new) (taken mid) (taken new) bytes → stream.arrived.ended ≡ false
+    pub fed-whole : (new : S) (bytes : List ℕ) → Takes (left mid) (left new) (taken mid) (taken new) bytes → stream.arrived.ended ≡ false
         → decides stream.state 0 (stream.arrived.bytes ++ bytes) ≡ false → HasAllCome (total_of raw) left taken faults old new had.asked
     unfolding front_from
     fed-whole new bytes takes unended none = record {

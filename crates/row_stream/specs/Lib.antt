@@ -6,5 +6,6 @@ pub mod Serving
 pub mod Refusing
 pub mod Sourcing
 pub mod Stepping
+pub mod Waiting
 pub mod Ending
 pub mod Laws

@@ -1,10 +1,11 @@
 // The next row of a source.
-ghost use Rattle.std.specs.Prelude.{◌≡◌, ◌≢◌, ◌⊎◌, ◌≤◌, ℕ, List, Option, Err, IfOk, IfErr, IfNone};
+ghost use Rattle.std.specs.Prelude.{◌≡◌, ◌≢◌, ◌≤◌, ℕ, List, Option, Err, IfOk, IfErr, IfNone};
 ghost use Rattle.std.specs.Io.KnownBytes.{Appends};
 ghost use Rattle.pcm_io.specs.Faults.{Rose};
 ghost use Rattle.pcm_io.specs.Giving.{AppendsPrefix};
 ghost use Rattle.row_printer.specs.Printing.{IsPrinting, text_told};
 ghost use Rattle.row_stream.specs.Sourcing.{GivesNext, HasNoNext};
+ghost use Rattle.row_stream.specs.Stepping.{AsksBehind};
 
 use crate::stop::Stop;
 use pcm_io::{Sink, Source};
@@ -22,9 +23,7 @@ pub fn next_row<const B: usize, S: Source, K: Sink + Drop>(
         stream.old stream.new next) }
     ensures err { IfErr result (λ stop. HasNoNext B S.left S.taken S.faults source.old
         source.new stream.old stream.new stop) }
-    ensures waits { (source.new ≡ source.old) ⊎ ((before : Option (List ℕ)) (first : ℕ)
-        → IsPrinting K.written K.faults before first out.old
-        → Appends before (K.written out.new.sink) (text_told out.new)) }
+    ensures waits { AsksBehind K.written K.faults source.old source.new stream.old out.old }
     ensures none { IfOk result (λ next. IfNone next ((before : Option (List ℕ)) (first : ℕ)
         → IsPrinting K.written K.faults before first out.old
         → Appends before (K.written out.new.sink) (text_told out.new))) }

@@ -12,6 +12,7 @@ ghost use Rattle.row_stream.specs.Asking.{behind_of};
 ghost use Rattle.row_stream.specs.Refusing.{EndsBehind, GoesAsFar};
 ghost use Rattle.row_stream.specs.Serving.{IsServing, told_so_far};
 ghost use Rattle.row_stream.specs.Sourcing.{HasStopped, IsRead, IsReadTo};
+ghost use Rattle.row_stream.specs.Waiting.{IsTextOf, TellsFirst};
 
 use crate::stepping::take_next;
 use crate::stop::{Behind, Step, Stop};
@@ -60,6 +61,14 @@ pub fn serve_source<
         (A.state array.new) out.new.rows out.new.told out.new.prints out.new.snapshots)
         × HasStopped (total_of raw) S.left S.taken S.faults source.old source.new asked stop
         × GoesAsFar stop stops asked (told_so_far had)) }
+    // Each time that the source was asked, the rows that had come whole were served, and all that was told was written.
+    ensures waits { (raw : RawShape) (seed : ℕ)
+        → IsServing raw seed [] pcm.old (A.state array.old) out.old.rows out.old.told out.old.prints
+        out.old.snapshots
+        → (before : Option (List ℕ)) (first : ℕ)
+        → IsPrinting K.written K.faults before first out.old
+        → (times : ℕ) × TellsFirst (total_of raw) S.left S.taken S.faults source.old K.written before
+        (IsTextOf B M E raw seed out.old.prints) times source.new }
     ensures prints { out.new.prints ≡ out.old.prints }
     ensures printing { (before : Option (List ℕ)) (first : ℕ)
         → IsPrinting K.written K.faults before first out.old

@@ -1,6 +1,6 @@
 -- A bank that is exhausted accepts no write that comes later.
-use Rattle.std.proofs.Common.{◌≡◌, ℕ, cond, Bool, true, false, List, [], ◌∷◌, ◌++◌, length, inl, inr, refl, sym, ap, subst, ◌∙◌, append_assoc}
-use Rattle.std.{specs.Prelude.All, proofs.lemmas.List.Elements.{All-nil, All-cons}}
+use Rattle.std.proofs.Common.{◌≡◌, ℕ, cond, Bool, true, false, List, [], ◌++◌, inl, inr, refl, sym, ap, subst, ◌∙◌}
+use Rattle.std.specs.Prelude.{All}
 use Rattle.masked_bytes.specs.Entries.{candidate, layer_of}
 use Rattle.result_rows.specs.declared.Outcome.{Outcome}
 use Rattle.result_rows.specs.declared.Outcome.TheVariants as out
@@ -8,12 +8,12 @@ use Rattle.row_rules.specs.{Answers.accepts, declared.Asks.Asks, declared.Asks.T
 use Rattle.bank_shape.specs.{declared.BankShape.BankShape, declared.answer.ReadAnswer.ReadAnswer, declared.answer.WriteAnswer.WriteAnswer, declared.pace.Pace.Pace}
 use Rattle.bank_shape.specs.declared.answer.WriteAnswer.TheVariants as wrote
 use Rattle.bank_shape.specs.declared.answer.ReadAnswer.TheVariants as came
-use Rattle.bank_model.specs.{Answers.{accept_answer, head_busy_after, write_answer}, Events.{Write, Read, Cut, newest}, History.{awaited, has_exhausted, queue, waits}}
-use Rattle.bank_model.specs.{Lawful.{Lawful, MayCome}, Timing.{Happens, Core, TimedEvent, core}}
-use Rattle.bank_laws.{specs.Outcomes.{ended, outcome_of}, proofs.Ending.{Onwards, own_answer}, proofs.Fates.{IsSettled, ReadFate, awaits-has, awaits-new}}
-use Rattle.bank_laws.proofs.{Serves.{may_at, onwards_at}, Settling.opens, Wears.exhausted_later}
-use Rattle.module_laws.specs.Asking.{Asked, AreAsked, IsAsked}
-use Rattle.settle_laws.proofs.{Banks.known_of, Parting.{front-same, sized}}
+use Rattle.bank_model.specs.{Answers.{accept_answer, head_busy_after, write_answer}, Events.{Write, Read, newest}, History.{awaited, has_exhausted, queue, waits}, Lawful.Lawful}
+use Rattle.bank_model.specs.Timing.{Core, TimedEvent, core}
+use Rattle.bank_laws.{specs.Outcomes.{ended, outcome_of}, proofs.Ending.{Onwards, own_answer}, proofs.Fates.{IsSettled, ReadFate, awaits-has, awaits-new}, proofs.Settling.opens}
+use Rattle.bank_laws.proofs.Wears.{exhausted_later}
+use Rattle.module_laws.specs.Asking.{Asked, AreAsked}
+use Rattle.settle_laws.proofs.{Banks.known_of, Coming.each-later}
 
 settled-rejects : {n : ℕ} (owed : List ℕ) (o : Outcome n) → IsSettled owed o → accepts o ≡ false
 settled-rejects owed (out.Read tick place bytes) settled = refl
@@ -62,39 +62,14 @@ module _ {n m : ℕ} (shape : BankShape) (pace : Pace) (e : ℕ) (xs : List (Tim
         by (inl awaits) = ap accepts ((opens shape pace e all l).waiting row (awaits-has (waits shape (core all)) row (newest (core ys) line) awaits))
         by (inr settled) = settled-rejects (newest (core ys) line) (outcome_of shape all row) settled
 
-  -- what was asked, in two parts: the history asked for the earlier one, and no row of the later one comes to an accepted write
-  abbrev IsParted : List (Asked n) → Type 0
-  IsParted asked = (late : List (Asked n)) × (early : List (Asked n)) × (asked ≡ late ++ early) × AreAsked xs early × All Is late
-
-  grown : (a : Asked n) (asked : List (Asked n)) → Is a → IsParted asked → IsParted (a ∷ asked)
-  grown a asked own p = (a ∷ p.0, p.1, ap (λ (asked : List (Asked n)). a ∷ asked) p.2, p.3, All-cons Is a p.0 own p.4)
-
-  walk : (later since : List (TimedEvent n m)) → all ≡ later ++ (since ++ xs) → (asked : List (Asked n)) → AreAsked (since ++ xs) asked → IsParted asked
-  walk later [] same asked is = ([], asked, refl, is, All-nil Is)
-  walk later (x ∷ since) same asked is =
-      by x.happens x.cancels asked (may_at shape pace e all later x (since ++ xs) l same) (onwards_at shape pace e all later x (since ++ xs) l same) is
-      (λ rest are. walk (later ++ x ∷ []) since (same ∙ sym (append_assoc later (x ∷ []) (since ++ xs))) rest are)
-    where
-      still : has_exhausted (core (since ++ xs)) ≡ true
-      still = exhausted_later shape pace e since xs exhausted
-
-      by : (h : Happens n) (cancels : Bool) (asked : List (Asked n)) → MayCome shape pace e (since ++ xs) x h → Onwards shape all (since ++ xs) x.tick h
-          → IsAsked h cancels x.tick (AreAsked (since ++ xs)) asked → ((rest : List (Asked n)) → AreAsked (since ++ xs) rest → IsParted rest) → IsParted asked
-      by (Core (Write row line bytes given answer)) cancels [] may on is ih = absurd is
-      by (Core (Write row line bytes given answer)) cancels (a ∷ asked) may on is ih =
-          grown a asked
-          (subst Is (sym is.0) (of-write over (record { row = row; tick = x.tick; asks = Writes line bytes given }) line bytes given x.tick
-          (written (since ++ xs) x still row line bytes given answer (refuses (since ++ xs) x still answer line may.may.2) on))) (ih asked is.1)
-      by (Core (Read row line answer)) cancels [] may on is ih = absurd is
-      by (Core (Read row line answer)) cancels (a ∷ asked) may on is ih =
-          grown a asked (subst Is (sym is.0) (of-read over (record { row = row; tick = x.tick; asks = Reads line }) line (came-in (since ++ xs) x still row line answer on))) (ih asked is.1)
-      by (Core (Cut tearing)) false [] may on is ih = absurd is
-      by (Core (Cut tearing)) false (a ∷ asked) may on is ih = grown a asked (subst (λ (asks : Asks n). Rejects a asks) (sym is.1) (of-cut over a)) (ih asked is.2)
-      by _ _ asked may on is ih = ih asked is
-
   pub rejected : (since : List (TimedEvent n m)) → all ≡ since ++ xs → (later asked : List (Asked n)) → AreAsked (since ++ xs) (later ++ asked) → AreAsked xs asked
       → All (λ (a : Asked n). accepts (known_of over shape all a a.asks) ≡ false) later
-  rejected since same later asked both own =
-      let p = walk [] since same (later ++ asked) both in
-      let size : length asked ≡ length p.1 = sized xs asked own ∙ sym (sized xs p.1 p.3) in
-      subst (All Is) (sym (front-same later asked p.0 p.1 p.2 size)) p.4
+  rejected =
+      each-later shape pace e xs all l Is
+      (λ later since x same row line bytes given answer may on.
+      let still = exhausted_later shape pace e since xs exhausted in
+      of-write over (record { row = row; tick = x.tick; asks = Writes line bytes given }) line bytes given x.tick
+      (written (since ++ xs) x still row line bytes given answer (refuses (since ++ xs) x still answer line may.may.2) on))
+      (λ later since x same row line answer may on.
+      of-read over (record { row = row; tick = x.tick; asks = Reads line }) line (came-in (since ++ xs) x (exhausted_later shape pace e since xs exhausted) row line answer on))
+      (λ a is_cut. subst (λ (asks : Asks n). Rejects a asks) (sym is_cut) (of-cut over a))

@@ -7,6 +7,8 @@ mod Lines
 mod Along
 mod Law
 mod Deciding
+mod Coming
 mod Exhausting
+mod Halting
 mod Turned
 mod Turning

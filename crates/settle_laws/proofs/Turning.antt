@@ -1,14 +1,14 @@
 -- Behind each row a stream has told in turn what became of its rows.
-use Rattle.std.proofs.Common.{◌≡◌, ◌≢◌, ℕ, zero, suc, ◌+◌, ◌<◌, ◌≤◌, ◌==◌, ◌&&◌, ◌||◌, cond, Bool, true, false, List, [], ◌∷◌, ◌++◌, length, map, Option, Some, None, refl, sym, ap, subst, ◌∙◌, append_assoc, arith}
+use Rattle.std.proofs.Common.{◌≡◌, ◌≢◌, ◌⊎◌, inl, inr, get_or, ℕ, zero, suc, ◌+◌, ◌<◌, ◌≤◌, ◌==◌, ◌&&◌, ◌||◌, cond, Bool, true, false, List, [], ◌∷◌, ◌++◌, length, map, Option, Some, None, refl, sym, ap, subst, ◌∙◌, append_assoc, arith}
 use Rattle.std.{specs.Prelude.{All, IfSome, IsSomeAnd, filter, slice_get, unwrap_or}, proofs.lemmas.Bool.ne_eqb}
 use Rattle.std.proofs.lemmas.List.Elements.{All-append, All-cons, All-head, All-nil, All-tail, All-weaker}
 use Rattle.trace_reader.specs.declared.event.Event.{Event}
 use Rattle.result_rows.specs.{Outcomes.tick_of, declared.Outcome.Outcome}
 use Rattle.result_rows.specs.declared.Outcome.TheVariants as out
-use Rattle.row_rules.specs.{Answers.accepts, Lines.IsOfLines, Table.is_of}
+use Rattle.row_rules.specs.{Answers.{accepts, is_stored, is_worn}, Lines.IsOfLines, Table.is_of}
 use Rattle.bank_shape.specs.declared.BankShape.{BankShape}
 use Rattle.trace_rows.specs.Rows.{asks_of}
-use Rattle.bank_model.specs.{History.has_exhausted, Lawful.Lawful, Timing.{TimedEvent, core, last_tick}}
+use Rattle.bank_model.specs.{Changes.halted_after, History.has_exhausted, Lawful.Lawful, Timing.{TimedEvent, core, last_tick}}
 use Rattle.module_shape.specs.{Addresses.{bank_shape, module_of}, Limits.{IsShape, total_of}, declared.raw.RawShape.RawShape}
 use Rattle.module_laws.specs.Asking.{Asked, AreAsked, asked_in, asked_of}
 use Rattle.clock_laws.specs.State.{ClockState}
@@ -16,11 +16,12 @@ use Rattle.bank_timing.specs.Extending.{outcome_in}
 use Rattle.right_runs.specs.Banks.{bank_of_line, line_in_bank, pacing_in}
 use Rattle.run_laws.proofs.Mixing.{lines_law}
 use Rattle.pcm_module.specs.{Asking.{asked_by, asked_for}, Replaying.ReplaysIn, State.{bank_at, first_bank}, Telling.{comes_to, is_asked_of}}
-use Rattle.row_printer.specs.{Printing.table_of, declared.told.Mark.TheVariants.Exhausted, declared.told.Told.Told, declared.told.Told.TheVariants.{Bank, Looked, Settled}}
+use Rattle.row_printer.specs.{Printing.table_of, declared.told.Mark.TheVariants.{Exhausted, Going, Halted}, declared.told.Told.Told}
+use Rattle.row_printer.specs.declared.told.Told.TheVariants.{Bank, Looked, Settled}
 use Rattle.trace_stream.specs.{Asked.events_in, declared.asked.Asked.Asked as StreamAsked, declared.asked.Asked.TheVariants.{Happens as IsEvent, Settle, Query, Look, Until}}
 use Rattle.row_stream.specs.{Answering.{backlog_of, banks_told, mark_of}, Asking.tick_reached, Looking.wear_of, Serving.{AreKnown, TellsAlong, lines_of}}
 use Rattle.settle_laws.specs.{Marks.{AreMarksTrue, EndedMarkLaw, IsTrueMark, MarkLaw}, Turns.{AreInTurn, EndedTurnLaw, TellsInTurn, TurnLaw, comes_in, is_decided, is_in_bank}}
-use Rattle.settle_laws.proofs.{Along.events-both, Banks.{IsRight, known_of}, Exhausting.rejected}
+use Rattle.settle_laws.proofs.{Along.events-both, Banks.{IsRight, known_of}, Exhausting.rejected, Halting.{IsHalted, IsOver, halted-now, left-before, left-later, taken-later}}
 use Rattle.settle_laws.proofs.Rows.{Goes, all-second, each-place, each-row, front-asked, goes-finished, goes-so-far, in-front, own-both, row-of}
 use Rattle.settle_laws.proofs.Turned.{IsTurned, bank-turned, from-before, from-told, of-bank-row}
 
@@ -66,6 +67,16 @@ marked-exhausted : (exhausted halted : Bool) → mark_of exhausted halted ≡ Ex
 marked-exhausted true halted is = refl
 marked-exhausted false true is = absurd (cc is)
 marked-exhausted false false is = absurd (cc is)
+
+marked-halted : (exhausted halted : Bool) → mark_of exhausted halted ≡ Halted → (exhausted ≡ false) × (halted ≡ true)
+marked-halted true halted is = absurd (cc is)
+marked-halted false true is = (refl, refl)
+marked-halted false false is = absurd (cc is)
+
+marked-over : (exhausted halted : Bool) → mark_of exhausted halted ≢ Going → (exhausted ≡ true) ⊎ (halted ≡ true)
+marked-over true halted is = inl refl
+marked-over false true is = inr refl
+marked-over false false is = absurd (is refl)
 
 module _ {n : ℕ} (home : ℕ → ℕ) (bank : ℕ) where
   -- no event has a number that is greater than how many there are
@@ -159,73 +170,135 @@ module _ {n m : ℕ} (e : ℕ) (raw : RawShape) (seed : ℕ) (is : IsShape raw) 
   right-of bank exists =
       of-bank-row (home raw seed) (number raw seed) bank (λ k. IsRight (last_tick (h bank)) (outcome_in results k) (outcome k)) (asked_for events) (turned bank exists).right
 
-  -- and behind a bank that was exhausted no write of it is accepted
-  no-write : (bank : ℕ) → bank < raw.banks → has_exhausted (core (h bank)) ≡ true → (k : ℕ) → length events < k
-      → is_asked_of (home raw seed) bank (asked_for (later ++ events)) k ≡ true → accepts (outcome k) ≡ false
-  no-write bank exists exhausted k behind is =
-      of-bank-row (home raw seed) (number raw seed) bank (λ k. accepts (outcome k) ≡ false) (in-front later events) each k (front-row (home raw seed) bank later events k behind is)
-    where
-      shape : BankShape
-      shape = bank_shape (module_of raw) bank
+  -- of a bank, and the history that it goes on to
+  module _ (bank : ℕ) (exists : bank < raw.banks) where
+    abbrev shape : BankShape
+    shape = bank_shape (module_of raw) bank
 
-      all : List (TimedEvent n m)
-      all = since bank ++ h bank
+    abbrev all : List (TimedEvent n m)
+    all = since bank ++ h bank
 
-      lawful : Lawful shape (pacing_in raw) e all
-      lawful = subst (λ (xs : List (TimedEvent n m)). Lawful shape (pacing_in raw) e xs) (parts bank) (goes.lawful bank exists)
+    lawful : Lawful shape (pacing_in raw) e all
+    lawful = subst (λ (xs : List (TimedEvent n m)). Lawful shape (pacing_in raw) e xs) (parts bank) (goes.lawful bank exists)
 
-      asked : AreAsked all (own-later bank ++ own bank)
-      asked =
-          subst (λ (asked : List (Asked n)). AreAsked all asked) (own-all bank)
-          (subst (λ (xs : List (TimedEvent n m)). AreAsked xs (asked_of (home raw seed) (number raw seed) bank (asked_for (later ++ events)))) (parts bank) (goes.asked bank exists))
+    asked : AreAsked all (own-later bank ++ own bank)
+    asked =
+        subst (λ (asked : List (Asked n)). AreAsked all asked) (own-all bank)
+        (subst (λ (xs : List (TimedEvent n m)). AreAsked xs (asked_of (home raw seed) (number raw seed) bank (asked_for (later ++ events)))) (parts bank) (goes.asked bank exists))
 
-      recorded : All (λ (a : Asked n). outcome a.row ≡ known_of over shape all a a.asks) (own-later bank)
-      recorded =
-          all-first (λ (a : Asked n). outcome a.row ≡ known_of over shape all a a.asks) (own-later bank) (own bank)
-          (subst (λ (asked : List (Asked n)). All (λ (a : Asked n). outcome a.row ≡ known_of over shape all a a.asks) asked) (own-all bank)
-          (subst (λ (xs : List (TimedEvent n m)). All (λ (a : Asked n). outcome a.row ≡ known_of over shape xs a a.asks)
-          (asked_of (home raw seed) (number raw seed) bank (asked_for (later ++ events)))) (parts bank) (goes.recorded bank exists)))
+    abbrev Recorded : Asked n → Type 0
+    Recorded a = outcome a.row ≡ known_of over shape all a a.asks
 
-      each : All (λ (a : Asked n). accepts (outcome a.row) ≡ false) (own-later bank)
-      each = λ k d below.
-          ap accepts (recorded k d below)
-          ∙ rejected shape (pacing_in raw) e (h bank) exhausted all lawful over (since bank) refl (own-later bank) (own bank) asked (then-goes.asked bank exists) k d below
+    recorded : All Recorded (own-later bank ++ own bank)
+    recorded =
+        subst (λ (asked : List (Asked n)). All Recorded asked) (own-all bank)
+        (subst (λ (xs : List (TimedEvent n m)). All (λ (a : Asked n). outcome a.row ≡ known_of over shape xs a a.asks)
+        (asked_of (home raw seed) (number raw seed) bank (asked_for (later ++ events)))) (parts bank) (goes.recorded bank exists))
+
+    -- where it was exhausted no write of it is accepted
+    no-write : has_exhausted (core (h bank)) ≡ true → (k : ℕ) → length events < k → is_asked_of (home raw seed) bank (asked_for (later ++ events)) k ≡ true → accepts (outcome k) ≡ false
+    no-write exhausted k behind is =
+        of-bank-row (home raw seed) (number raw seed) bank (λ k. accepts (outcome k) ≡ false) (in-front later events) each k (front-row (home raw seed) bank later events k behind is)
+      where
+        each : All (λ (a : Asked n). accepts (outcome a.row) ≡ false) (own-later bank)
+        each = λ k d below.
+            ap accepts (all-first Recorded (own-later bank) (own bank) recorded k d below)
+            ∙ rejected shape (pacing_in raw) e (h bank) exhausted all lawful over (since bank) refl (own-later bank) (own bank) asked (then-goes.asked bank exists) k d below
+
+    -- where it had halted and wasn't exhausted no write of it is refused for wear
+    no-refusal : IsHalted shape (pacing_in raw) e (h bank) → has_exhausted (core (h bank)) ≡ false → (k : ℕ) → length events < k
+        → is_asked_of (home raw seed) bank (asked_for (later ++ events)) k ≡ true → is_worn (outcome k) ≡ false
+    no-refusal halted fresh k behind is =
+        of-bank-row (home raw seed) (number raw seed) bank (λ k. is_worn (outcome k) ≡ false) (in-front later events) each k (front-row (home raw seed) bank later events k behind is)
+      where
+        each : All (λ (a : Asked n). is_worn (outcome a.row) ≡ false) (own-later bank)
+        each = λ k d below.
+            ap is_worn (all-first Recorded (own-later bank) (own bank) recorded k d below)
+            ∙ taken-later shape (pacing_in raw) e (h bank) halted fresh all lawful over (since bank) refl (own-later bank) (own bank) asked (then-goes.asked bank exists) k d below
+
+    -- where it was exhausted or had halted nothing of it is stored that had no outcome
+    no-store : IsOver shape (pacing_in raw) e (h bank) → (k : ℕ) → is_asked_of (home raw seed) bank (asked_for (later ++ events)) k ≡ true → outcome_in results k ≡ out.Unset → is_stored (outcome k) ≡ false
+    no-store is_over =
+        of-bank-row (home raw seed) (number raw seed) bank Stays (asked_for (later ++ events))
+        (subst (λ (asked : List (Asked n)). All (λ (a : Asked n). Stays a.row) asked) (sym (own-all bank)) (All-append (λ (a : Asked n). Stays a.row) (own-later bank) (own bank) coming had))
+      where
+        Stays : ℕ → Type 0
+        Stays k = outcome_in results k ≡ out.Unset → is_stored (outcome k) ≡ false
+
+        coming : All (λ (a : Asked n). Stays a.row) (own-later bank)
+        coming = λ k d below unset.
+            ap is_stored (all-first Recorded (own-later bank) (own bank) recorded k d below)
+            ∙ left-later shape (pacing_in raw) e (h bank) is_over all lawful over (since bank) refl (own-later bank) (own bank) asked (then-goes.asked bank exists) k d below
+
+        had : All (λ (a : Asked n). Stays a.row) (own bank)
+        had = λ k d below unset.
+            let a : Asked n = get_or (own bank) k d in
+            ap is_stored (all-second Recorded (own-later bank) (own bank) recorded k d below)
+            ∙ left-before shape (pacing_in raw) e (h bank) is_over all lawful over (since bank) refl a a.asks (sym (then-goes.recorded bank exists k d below) ∙ unset)
+
+  abbrev IsTrueLine : List (StreamAsked n) → Told n → Type 0
+  IsTrueLine whole = IsTrueMark raw seed whole (outcome_in results) outcome (length events)
 
   -- so the lines that answer the row tell the truth
   bank-line : (whole : List (StreamAsked n)) → later ++ events ≡ events_in whole → (tick bank : ℕ) → bank < known.module_.shape.banks
-      → IsTrueMark raw seed whole outcome (length events) (Bank tick (backlog_of bank (bank_at known.module_ bank)))
-  bank-line whole same tick bank there marked exists k behind is =
-      no-write bank exists (by (slice_get known.module_.banks bank) (known.served.replays.banks bank there) (marked-exhausted _ _ marked)) k behind
-      (subst (λ (es : List (Event n)). is_asked_of (home raw seed) bank (asked_for es) k ≡ true) (sym same) is)
+      → IsTrueLine whole (Bank tick (backlog_of bank (bank_at known.module_ bank)))
+  bank-line whole same tick bank there exists = (
+    λ marked k is unset. no-store bank exists (over-by (marked-over _ _ marked)) k (of-all k is) unset,
+    λ marked k behind is. no-write bank exists (by-exhausted true (marked-exhausted _ _ marked)) k behind (of-all k is),
+    λ marked k behind is. let alone = marked-halted _ _ marked in no-refusal bank exists (by-halted alone.1) (by-exhausted false alone.0) k behind (of-all k is),
+  )
     where
-      by : (o : Option (ClockState n m e)) → IsSomeAnd o (ReplaysIn known.module_ bank (h bank) (asked_for events) known.array results)
-          → (unwrap_or o (first_bank known.module_.shape bank)).bank.kept.exhausted ≡ true → has_exhausted (core (h bank)) ≡ true
-      by None in_bank marked = absurd in_bank
-      by (Some clock) in_bank marked = sym in_bank.leads.holds.exhausted ∙ marked
+      of-all : (k : ℕ) → is_in_bank raw seed whole bank k ≡ true → is_asked_of (home raw seed) bank (asked_for (later ++ events)) k ≡ true
+      of-all k is = subst (λ (es : List (Event n)). is_asked_of (home raw seed) bank (asked_for es) k ≡ true) (sym same) is
+
+      clock : ClockState n m e
+      clock = bank_at known.module_ bank
+
+      exhausted-then : (mark : Bool) (o : Option (ClockState n m e)) → IsSomeAnd o (ReplaysIn known.module_ bank (h bank) (asked_for events) known.array results)
+          → (unwrap_or o (first_bank known.module_.shape bank)).bank.kept.exhausted ≡ mark → has_exhausted (core (h bank)) ≡ mark
+      exhausted-then mark None in_bank marked = absurd in_bank
+      exhausted-then mark (Some clock) in_bank marked = sym in_bank.leads.holds.exhausted ∙ marked
+
+      halted-then : (o : Option (ClockState n m e)) → IsSomeAnd o (ReplaysIn known.module_ bank (h bank) (asked_for events) known.array results)
+          → (unwrap_or o (first_bank known.module_.shape bank)).regs.halted ≡ true → halted_after (h bank) ≡ true
+      halted-then None in_bank marked = absurd in_bank
+      halted-then (Some clock) in_bank marked = sym in_bank.leads.regs.halted ∙ marked
+
+      by-exhausted : (mark : Bool) → clock.bank.kept.exhausted ≡ mark → has_exhausted (core (h bank)) ≡ mark
+      by-exhausted mark = exhausted-then mark (slice_get known.module_.banks bank) (known.served.replays.banks bank there)
+
+      by-halted : clock.regs.halted ≡ true → IsHalted (bank_shape (module_of raw) bank) (pacing_in raw) e (h bank)
+      by-halted halted =
+          halted-now (bank_shape (module_of raw) bank) (pacing_in raw) e (h bank) (then-goes.lawful bank exists)
+          (halted-then (slice_get known.module_.banks bank) (known.served.replays.banks bank there) halted)
+
+      over-by : (clock.bank.kept.exhausted ≡ true) ⊎ (clock.regs.halted ≡ true) → IsOver (bank_shape (module_of raw) bank) (pacing_in raw) e (h bank)
+      over-by (inl exhausted) = inl (by-exhausted true exhausted)
+      over-by (inr halted) = inr (by-halted halted)
 
   banks-lines : (whole : List (StreamAsked n)) → later ++ events ≡ events_in whole → (tick banks : ℕ) → banks ≤ known.module_.shape.banks
-      → All (IsTrueMark raw seed whole outcome (length events)) (banks_told known.module_ tick banks)
-  banks-lines whole same tick zero few = All-nil (IsTrueMark raw seed whole outcome (length events))
+      → All (IsTrueLine whole) (banks_told known.module_ tick banks)
+  banks-lines whole same tick zero few = All-nil (IsTrueLine whole)
   banks-lines whole same tick (suc bank) few =
-      All-append (IsTrueMark raw seed whole outcome (length events)) (banks_told known.module_ tick bank) (Bank tick (backlog_of bank (bank_at known.module_ bank)) ∷ [])
+      All-append (IsTrueLine whole) (banks_told known.module_ tick bank) (Bank tick (backlog_of bank (bank_at known.module_ bank)) ∷ [])
       (banks-lines whole same tick bank (omega (arith, few)))
-      (All-cons (IsTrueMark raw seed whole outcome (length events)) (Bank tick (backlog_of bank (bank_at known.module_ bank))) []
-      (bank-line whole same tick bank (omega (arith, few))) (All-nil (IsTrueMark raw seed whole outcome (length events))))
+      (All-cons (IsTrueLine whole) (Bank tick (backlog_of bank (bank_at known.module_ bank))) []
+      (bank-line whole same tick bank (omega (arith, few))) (All-nil (IsTrueLine whole)))
 
-  pub true-marks : (whole : List (StreamAsked n)) → later ++ events ≡ events_in whole → All (IsTrueMark raw seed whole outcome (length events)) (lines_of row known.module_ known.array)
+  pub true-marks : (whole : List (StreamAsked n)) → later ++ events ≡ events_in whole → All (IsTrueLine whole) (lines_of row known.module_ known.array)
   true-marks whole same = by row
     where
-      by : (row : StreamAsked n) → All (IsTrueMark raw seed whole outcome (length events)) (lines_of row known.module_ known.array)
-      by (IsEvent event) = All-nil (IsTrueMark raw seed whole outcome (length events))
-      by (Settle tick) = All-cons (IsTrueMark raw seed whole outcome (length events)) (Settled tick) [] tt (All-nil (IsTrueMark raw seed whole outcome (length events)))
+      by : (row : StreamAsked n) → All (IsTrueLine whole) (lines_of row known.module_ known.array)
+      by (IsEvent event) = All-nil (IsTrueLine whole)
+      by (Settle tick) = All-cons (IsTrueLine whole) (Settled tick) [] tt (All-nil (IsTrueLine whole))
       by (Query tick) =
-          All-append (IsTrueMark raw seed whole outcome (length events)) (banks_told known.module_ tick known.module_.shape.banks) (Settled tick ∷ [])
+          All-append (IsTrueLine whole) (banks_told known.module_ tick known.module_.shape.banks) (Settled tick ∷ [])
           (banks-lines whole same tick known.module_.shape.banks (omega arith))
-          (All-cons (IsTrueMark raw seed whole outcome (length events)) (Settled tick) [] tt (All-nil (IsTrueMark raw seed whole outcome (length events))))
+          (All-cons (IsTrueLine whole) (Settled tick) [] tt (All-nil (IsTrueLine whole)))
       by (Look tick) =
-          All-cons (IsTrueMark raw seed whole outcome (length events)) (Looked tick (wear_of e known.array)) (Settled tick ∷ []) tt
-          (All-cons (IsTrueMark raw seed whole outcome (length events)) (Settled tick) [] tt (All-nil (IsTrueMark raw seed whole outcome (length events))))
-      by (Until until) = All-cons (IsTrueMark raw seed whole outcome (length events)) (Settled until.reached) [] tt (All-nil (IsTrueMark raw seed whole outcome (length events)))
+          All-cons (IsTrueLine whole) (Looked tick (wear_of e known.array)) (Settled tick ∷ []) tt
+          (All-cons (IsTrueLine whole) (Settled tick) [] tt (All-nil (IsTrueLine whole)))
+      by (Until until) = All-cons (IsTrueLine whole) (Settled until.reached) [] tt (All-nil (IsTrueLine whole))
 
   pub in-turn : TellsInTurn raw seed row before (outcome_in results) outcome
   in-turn = record {

@@ -39,8 +39,8 @@ pub fn outcomes_are_told_in_turn_so_far()
     ensures { TurnLaw }
 {}
 
-/// Of a bank that a query tells as exhausted no write that comes later is accepted.
-pub fn exhausted_banks_accept_nothing()
+/// Of a bank that a query marks, as exhausted or as halted, nothing is stored any more; and of one that is exhausted no write that comes later is accepted.
+pub fn marked_banks_store_nothing()
     ensures ended { EndedMarkLaw }
     ensures so_far { MarkLaw }
 {}

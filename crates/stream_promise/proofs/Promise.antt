@@ -19,14 +19,14 @@ use Rattle.row_stream.specs.{Asking.{BeginsWith, stays_off, tick_reached, with_c
 use Rattle.row_stream.specs.Sourcing.{IsRead, IsReadTo}
 use Rattle.stream_top.specs.{Calls.LentSource, Promises.{Breaks, BreaksOn, Call, Does, DoesOn, KeepsPromises, Stops as StopsCall, StopsOn}}
 use Rattle.stream_top.specs.Streams.{BeginsInPart, BreaksOff, ComeFrom, GoesAsFarAs, IsServed, IsServedInPart, Streams, StreamsInPart, StreamsUpTo, done_by, is_off, shown_by}
-use Rattle.stream_top.specs.{Streams.{stops_at_refusal, told_in_part}, declared.done.Done.Done, declared.fault.Fault.Fault}
-use Rattle.stream_top.specs.declared.fault.Fault.TheVariants.{Usage, Trace, Read, Write, TooLong, NoMemory}
+use Rattle.stream_top.specs.{Streams.{stops_at_refusal, told_in_part}, Waiting.{IsJobText, WaitsAt, WaitsFor, WaitsOn}, declared.done.Done.Done, declared.fault.Fault.Fault}
+use Rattle.stream_top.{specs.declared.fault.Fault.TheVariants.{Usage, Trace, Read, Write, TooLong, NoMemory}, proofs.Waiting.tells-so}
 use Rattle.moment_laws.specs.Moments.{MomentLaw}
 use Rattle.settle_laws.specs.{Marks.{EndedMarkLaw, MarkLaw}, Streams.{BegunStreamLaw, WholeStreamLaw}, Turns.{EndedTurnLaw, TurnLaw}}
 use Rattle.snapshot_laws.specs.Rising.{EndedLaw, SoFarLaw}
 use Rattle.stream_promise.specs.Promise.{BeginsInPartByRows, BreakByRows, BreaksByRows, BreaksOnRows, ComeByRows, DoesByRows, DoesOnRows, EndsInPartByRows, EndsRows, GoesOnTo}
 use Rattle.stream_promise.specs.Promise.{IsServedByRows, IsServedInPartByRows, LastSnapshotLaw, PromisesByRows, StopByRows, StopsByRows, StopsOnRows, StreamsByRows, rows_so_far}
-use Rattle.stream_promise.specs.Rows.{is_refusal_told}
+use Rattle.stream_promise.specs.Rows.{IsTextByRows, is_refusal_told}
 use Rattle.stream_promise.proofs.Rows.{adds, by-rows, counts-rows, cut-same, end-where, in-turn-by-rows, looks-at, marks-by-rows, rows-of, shows-at, snaps-by-rows, without-refusal}
 use Rattle.stream_promise.proofs.{Rows.without-refusal-before, Spares.used-alike}
 use Rattle.bank_timing.specs.Extending.{outcome_in}
@@ -253,6 +253,30 @@ module _ {A V S K : Type 0} (laws : StreamLaws S) (call : Call A V S K) where
     unread = keeps.unread;
     others = keeps.others;
   }
+
+-- ---- what was told before the source was asked
+
+module _ {S K : Type 0} (moment : MomentLaw) (source : LentSource S) (received : K → Option (List ℕ)) (before : Option (List ℕ)) where
+  waits-on : (n m e : ℕ) (job : StreamJob) → WaitsOn IsJobText source received before n m e job → WaitsOn IsTextByRows source received before n m e job
+  waits-on n m e job waits = (
+    waits.0,
+    tells-so (total_of job.shape) source.left source.taken source.faults source.before received before (IsJobText n m e job) (IsTextByRows n m e job) (λ asked text is.
+        let it = is.1 in
+        let telling = it.telling in (
+          rows-of e job.shape job.seed moment is.0.shape asked telling,
+          it.snapshots,
+          snaps-by-rows e job.shape job.seed moment is.0.shape (shown_by job.shape job.print) asked telling.history telling.told telling.along it.snapshots it.snaps,
+          it.is,
+        )) waits.0 source.now waits.1,
+  )
+
+  waits-at : (job : StreamJob) (size : LineSize) → WaitsAt IsJobText source received before job size → WaitsAt IsTextByRows source received before job size
+  waits-at job Bytes64 waits = waits-on 64 8 6 job waits
+  waits-at job Bytes128 waits = waits-on 128 16 8 job waits
+
+  pub waits-by-rows : (asked : Result StreamJob Refusal) → WaitsFor IsJobText source received before asked → WaitsFor IsTextByRows source received before asked
+  waits-by-rows (Err e) waits = waits
+  waits-by-rows (Ok job) waits = waits-at job job.line waits
 
 -- ---- the last snapshot
 

@@ -7,7 +7,8 @@ use Rattle.row_rules.specs.declared.Row.{Row}
 use Rattle.module_shape.specs.{Limits.IsShape, declared.raw.RawShape.RawShape}
 use Rattle.right_runs.specs.Tables.{table_in}
 use Rattle.pcm_module.specs.State.{ModuleState, bank_at}
-use Rattle.row_printer.specs.{Printing.table_of, Snapshots.AddsDue, Telling.became, declared.snapshot.Snapshot.Snapshot, declared.told.Shown.Shown, declared.told.Told.Told, declared.told.Told.TheVariants.{Looked, Settled}}
+use Rattle.row_printer.specs.{Printing.table_of, Snapshots.AddsDue, Telling.became, declared.snapshot.Snapshot.Snapshot, declared.told.Shown.Shown, declared.told.Told.Told}
+use Rattle.row_printer.specs.declared.told.Told.TheVariants.{Looked, Settled}
 use Rattle.trace_stream.specs.{Asked.events_in, declared.asked.Asked.Asked, declared.asked.Asked.TheVariants.{Happens, Settle, Query, Look, Until}}
 use Rattle.row_stream.specs.{Answering.{backlog_of, banks_told}, Asking.{behind_of, cut_if, tick_reached, with_cut}, Ending.{without_cut, without_cut_if}}
 use Rattle.row_stream.specs.{Looking.{IsSnapshot, wear_of}, Refusing.{EndsBehind, MayGoOn, NoneBefore, WentOn}}
@@ -15,8 +16,8 @@ use Rattle.row_stream.specs.{Serving.{AreKnown, IsToldOf, SnapsAlong, Telling, T
 use Rattle.row_stream.specs.declared.stop.Behind.TheVariants.{Nothing, Going, Off}
 use Rattle.moment_laws.specs.{Backlogs.CountsBacklog, Moments.{LosesNothing, MomentLaw, rows_now}}
 use Rattle.settle_laws.specs.{Marks.AreMarksTrue, Turns.AreInTurn}
-use Rattle.stream_promise.specs.Rows.{AreAnswers, AreInTurnByRows, AreMarksTrueByRows, AreOfBanks, CountsRows, EndWhere, NoneWasBefore, RowsTold, SnapsByRows, TellsByRows}
-use Rattle.stream_promise.specs.Rows.{LooksAt, ShowsAt, WithoutRefusal, WithoutRefusalBefore, before_cut, before_cut_if}
+use Rattle.stream_promise.specs.Rows.{AreAnswers, AreInTurnByRows, AreMarksTrueByRows, AreOfBanks, CountsRows, EndWhere, NoneWasBefore, RowsTold, SnapsByRows, TellsByRows, LooksAt}
+use Rattle.stream_promise.specs.Rows.{ShowsAt, WithoutRefusal, WithoutRefusalBefore, before_cut, before_cut_if}
 
 -- ---- lines
 

@@ -29,8 +29,8 @@ use Rattle.stream_top.specs.{declared.done.Done.Done, declared.done.Done.TheVari
 use Rattle.moment_laws.specs.Moments.{rows_now}
 use Rattle.settle_laws.specs.Settles.{SettlesForGood, SettlesSoFar}
 use Rattle.snapshot_laws.specs.Rising.{NeverFall}
-use Rattle.stream_promise.specs.Rows.{AreInTurnByRows, AreMarksTrueByRows, CountsRows, EndWhere, LooksAt, RowsTold, ShowsAt, SnapsByRows, TellsByRows, WithoutRefusal, WithoutRefusalBefore}
-use Rattle.stream_promise.specs.Rows.{before_cut, is_refusal_told}
+use Rattle.stream_promise.specs.Rows.{AreInTurnByRows, AreMarksTrueByRows, CountsRows, EndWhere, LooksAt, RowsTold, ShowsAt, SnapsByRows, TellsByRows, WithoutRefusal}
+use Rattle.stream_promise.specs.Rows.{WithoutRefusalBefore, before_cut, is_refusal_told}
 
 -- lines of n bytes with m check bytes and e error-correcting pointers
 module _ {S : Type 0} (n m e : ℕ) (job : StreamJob) (source : LentSource S) where

@@ -7,11 +7,14 @@ use Rattle.module_shape.specs.declared.raw.RawShape.{RawShape}
 use Rattle.row_rules.specs.declared.Row.{Row}
 use Rattle.right_runs.specs.Tables.{table_in}
 use Rattle.run_text.specs.Counting.{counts_of}
-use Rattle.row_printer.specs.{Printing.table_of, Refusing.any_refused, Snapshots.AddsDue, Telling.became, declared.snapshot.Snapshot.Snapshot, declared.told.ArrayWear.ArrayWear}
-use Rattle.row_printer.specs.{declared.told.Backlog.Backlog, declared.told.Shown.Shown, declared.told.Told.Told, declared.told.Told.TheVariants.{Bank, Looked, Settled}}
+use Rattle.row_printer.specs.{Printing.{stream_text, table_of}, Refusing.any_refused, Snapshots.AddsDue, Telling.became, declared.snapshot.Snapshot.Snapshot}
+use Rattle.row_printer.specs.{declared.told.ArrayWear.ArrayWear, declared.told.Backlog.Backlog, declared.told.Shown.Shown, declared.told.Told.Told}
+use Rattle.row_printer.specs.declared.told.Told.TheVariants.{Bank, Looked, Settled}
 use Rattle.trace_stream.specs.{Asked.events_in, declared.asked.Asked.Asked, declared.asked.Asked.TheVariants.{Happens, Settle, Query, Look, Until}}
-use Rattle.row_stream.specs.{Asking.{behind_of, cut_if, tick_reached, with_cut}, Reaching.ReachesBy, Serving.{ComeInOrder, is_due_behind}, declared.stop.Behind.Behind}
-use Rattle.row_stream.specs.{Looking.wear_of, declared.stop.Behind.TheVariants.{Nothing, Going, Off}}
+use Rattle.row_stream.specs.{Asking.{behind_of, cut_if, tick_reached, with_cut}, Looking.wear_of, Reaching.ReachesBy, Serving.{ComeInOrder, is_due_behind}}
+use Rattle.row_stream.specs.{declared.stop.Behind.Behind, declared.stop.Behind.TheVariants.{Nothing, Going, Off}}
+use Rattle.stream_words.specs.declared.job.StreamJob.{StreamJob}
+use Rattle.stream_top.specs.Streams.{shown_by}
 use Rattle.moment_laws.specs.{Backlogs.CountsBacklog, Moments.rows_now}
 use Rattle.settle_laws.specs.{Marks.IsTrueMark, Turns.TellsInTurn}
 
@@ -98,6 +101,12 @@ SnapsByRows raw seed shown (row ∷ before) told rows snapshots =
     (earlier : List Snapshot) × SnapsByRows raw seed shown before rows.0 rows.1 earlier
     × AddsDue (is_due_behind shown row (length (events_in (row ∷ before)))) (CountsRows (length (events_in (row ∷ before))) (tick_reached (row ∷ before)) told) earlier snapshots
 
+-- this is the text of what was told of rows that asked this, with the snapshots that were taken of them
+abbrev pub IsTextByRows : (n m e : ℕ) → StreamJob → List (Asked n) → List ℕ → Type 0
+IsTextByRows n m e job asked text =
+    (it : RowsTold job.shape job.seed asked) × (snapshots : List Snapshot) × SnapsByRows job.shape job.seed (shown_by job.shape job.print) asked it.told it.rows snapshots
+    × (text ≡ stream_text (shown_by job.shape job.print) it.told snapshots)
+
 -- behind each row what was told had been told in turn, by what became of the rows in the end
 abbrev pub AreInTurnByRows : {n : ℕ} (raw : RawShape) (seed : ℕ) (asked : List (Asked n)) (told : List (Told n)) → TellsByRows raw seed asked told → (ℕ → Outcome n) → Type 0
 AreInTurnByRows raw seed [] told rows in_the_end = Unit {0}
@@ -105,12 +114,13 @@ AreInTurnByRows raw seed (row ∷ before) told rows in_the_end =
     AreInTurnByRows raw seed before rows.0 rows.1 in_the_end
     × TellsInTurn raw seed row before (outcome_in (table_of (length (events_in (row ∷ before))) told)) in_the_end
 
--- a bank that a query told as exhausted accepts no write that comes later, by what became in the end of all these rows
+-- a bank that a query marked stores nothing any more, and one that it told as exhausted accepts no write that comes later, by what became in the end of all these rows
 abbrev pub AreMarksTrueByRows : {n : ℕ} (raw : RawShape) (seed : ℕ) (whole : List (Asked n)) (in_the_end : ℕ → Outcome n) (asked : List (Asked n)) (told : List (Told n))
     → TellsByRows raw seed asked told → Type 0
 AreMarksTrueByRows raw seed whole in_the_end [] told rows = Unit {0}
 AreMarksTrueByRows raw seed whole in_the_end (row ∷ before) told rows =
-    AreMarksTrueByRows raw seed whole in_the_end before rows.0 rows.1 × All (IsTrueMark raw seed whole in_the_end (length (events_in (row ∷ before)))) rows.4
+    AreMarksTrueByRows raw seed whole in_the_end before rows.0 rows.1
+    × All (IsTrueMark raw seed whole (outcome_in (table_of (length (events_in (row ∷ before))) told)) in_the_end (length (events_in (row ∷ before)))) rows.4
 
 -- where the last row was a look, its line says how worn this array is
 abbrev pub LooksAt : {n m : ℕ} → ℕ → ArrayState n m → List (Asked n) → List (Told n) → Type 0

@@ -6,12 +6,14 @@ ghost use Rattle.std.specs.Prelude.{map, string_bytes};
 ghost use Rattle.stream_words.specs.Jobs.{stream_job_of};
 ghost use Rattle.program_calls.specs.Calls.{lent_sink};
 ghost use Rattle.stream_top.specs.Calls.{lent_telling, source_between};
+ghost use Rattle.stream_top.specs.Waiting.{WaitsFor};
 ghost use Rattle.stream_promise.specs.Promise.{LastSnapshotLaw, PromisesByRows};
+ghost use Rattle.stream_promise.specs.Rows.{IsTextByRows};
 
 use moment_laws::no_moment_loses_bytes;
 use pcm_io::{Sink, Source};
 use settle_laws::{
-    exhausted_banks_accept_nothing, outcomes_are_told_in_turn, outcomes_are_told_in_turn_so_far,
+    marked_banks_store_nothing, outcomes_are_told_in_turn, outcomes_are_told_in_turn_so_far,
     streams_settle_for_good,
 };
 use snapshot_laws::{snapshots_never_fall, snapshots_never_fall_so_far};
@@ -36,7 +38,11 @@ pub fn run_stream<
     out: Box<K>,
     err: &mut F,
 ) -> (u8, Box<K>)
-    ensures { PromisesByRows (record {
+    // Each time that the source is asked for a row, all that is known by then was told, and written.
+    ensures waits { WaitsFor IsTextByRows
+        (source_between S.left S.taken S.faults source.old source.new)
+        K.written (K.written out.value) (stream_job_of (map string_bytes words.now)) }
+    ensures promises { PromisesByRows (record {
       asked = stream_job_of (map string_bytes words.now);
       array = lent_telling A.state A.changes array.old array.new;
       wide = lent_telling V.state V.changes wide.old wide.new;
@@ -48,7 +54,7 @@ pub fn run_stream<
     streams_settle_for_good::<S>();
     outcomes_are_told_in_turn();
     outcomes_are_told_in_turn_so_far();
-    exhausted_banks_accept_nothing();
+    marked_banks_store_nothing();
     snapshots_never_fall();
     snapshots_never_fall_so_far();
     stream_run(alloc, words, array, wide, source, out, err)

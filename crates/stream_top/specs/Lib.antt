@@ -3,4 +3,5 @@ pub mod FaultLines
 pub mod Leaving
 pub mod Taking
 pub mod Streams
+pub mod Waiting
 pub mod Promises

@@ -4,6 +4,7 @@ ghost use Rattle.stream_words.specs.Jobs.{IsStreamJob, stream_job_of};
 ghost use Rattle.program_calls.specs.Calls.{lent_sink, sink_change};
 ghost use Rattle.stream_top.specs.Calls.{lent_telling, source_between};
 ghost use Rattle.stream_top.specs.Promises.{EndsCall, IsRefused, IsStatusOf, IsToldOf, KeepsPromises};
+ghost use Rattle.stream_top.specs.Waiting.{IsJobText, WaitsAt, WaitsFor};
 
 use crate::done::Done;
 use crate::fault::{Fault, tell};
@@ -44,13 +45,16 @@ fn stream_on<A: TellsWear<64, 8, 6>, V: TellsWear<128, 16, 8>, S: Source, K: Sin
     out: Box<K>,
 ) -> (Result<Done, Fault>, Box<K>)
     requires job { IsStreamJob job.now }
-    ensures { EndsCall (record {
+    ensures ends { EndsCall (record {
       asked = Ok job.now;
       array = lent_telling A.state A.changes array.old array.new;
       wide = lent_telling V.state V.changes wide.old wide.new;
       source = source_between S.left S.taken S.faults source.old source.new;
       out = lent_sink K.written K.faults out.value result.1.value;
     }) result.0 }
+    ensures waits { WaitsAt IsJobText
+        (source_between S.left S.taken S.faults source.old source.new)
+        K.written (K.written out.value) job.now job.now.line }
 {
     match job.line {
         LineSize::Bytes64 => stream::<64, 8, 6, A, S, K>(alloc, job, array, source, out),
@@ -81,13 +85,16 @@ fn work<A: TellsWear<64, 8, 6>, V: TellsWear<128, 16, 8>, S: Source, K: Sink + D
     source: &mut S,
     out: Box<K>,
 ) -> (Result<Done, Fault>, Box<K>)
-    ensures { EndsCall (record {
+    ensures ends { EndsCall (record {
       asked = stream_job_of (map string_bytes words.now);
       array = lent_telling A.state A.changes array.old array.new;
       wide = lent_telling V.state V.changes wide.old wide.new;
       source = source_between S.left S.taken S.faults source.old source.new;
       out = lent_sink K.written K.faults out.value result.1.value;
     }) result.0 }
+    ensures waits { WaitsFor IsJobText
+        (source_between S.left S.taken S.faults source.old source.new)
+        K.written (K.written out.value) (stream_job_of (map string_bytes words.now)) }
 {
     match read_words(alloc, words) {
         Ok(job) => stream_on(alloc, &job, array, wide, source, out),
@@ -114,8 +121,12 @@ pub fn stream_run<
     out: Box<K>,
     err: &mut F,
 ) -> (u8, Box<K>)
+    // Each time that the source is asked for a row, all that is known by then was told, and written.
+    ensures waits { WaitsFor IsJobText
+        (source_between S.left S.taken S.faults source.old source.new)
+        K.written (K.written out.value) (stream_job_of (map string_bytes words.now)) }
     // What was asked for, what was lent, and what became of it: each promise is a field of `KeepsPromises`.
-    ensures { KeepsPromises (record {
+    ensures promises { KeepsPromises (record {
       asked = stream_job_of (map string_bytes words.now);
       array = lent_telling A.state A.changes array.old array.new;
       wide = lent_telling V.state V.changes wide.old wide.new;

@@ -6,16 +6,19 @@ ghost use Rattle.pcm_io.specs.Giving.{AppendsPrefix};
 ghost use Rattle.pcm_io.specs.Reserved.{reserved};
 ghost use Rattle.program_calls.specs.Calls.{lent_sink};
 ghost use Rattle.ecp_line.specs.Layout.{IsLayout};
+ghost use Rattle.module_shape.specs.Limits.{total_of};
 ghost use Rattle.trace_stream.specs.declared.asked.Asked.{Asked as StreamAsked};
 ghost use Rattle.row_printer.specs.Printing.{IsPrinting, table_told, text_told};
 ghost use Rattle.row_stream.specs.Asking.{behind_of};
 ghost use Rattle.row_stream.specs.Serving.{IsServing, told_so_far};
+ghost use Rattle.row_stream.specs.Waiting.{IsTextOf, TellsFirst};
 ghost use Rattle.row_printer.specs.Refusing.{any_refused};
 ghost use Rattle.row_printer.specs.Snapshots.{IsShown};
 ghost use Rattle.stream_words.specs.Jobs.{IsStreamJob};
 ghost use Rattle.stream_words.specs.Options.{IsPrint};
 ghost use Rattle.stream_top.specs.Calls.{source_between};
 ghost use Rattle.stream_top.specs.Streams.{ComeFrom, Ends, GoesAsFarAs, HasPlayed, StopsBy, done_by, has_stopped, is_source, is_off, shape_told, shown_by, stop_fault, stops_at_refusal, told_of_rows};
+ghost use Rattle.stream_top.specs.Waiting.{IsJobText, WaitsOn};
 
 use crate::closing::print_closing;
 use crate::done::Done;
@@ -174,6 +177,11 @@ fn serve_rows<
         × Rose first (K.faults out.new.sink) }
     ensures wear { (A.state array.new).wear ≡ (A.state array.old).wear }
     ensures unread { is_source job.now.input ≡ false → source.new ≡ source.old }
+    ensures waits { (before : Option (List ℕ)) (first : ℕ)
+        → IsPrinting K.written K.faults before first out.old
+        → (times : ℕ) × TellsFirst (total_of job.now.shape) S.left S.taken S.faults source.old
+        K.written before (IsTextOf B M E job.now.shape job.now.seed out.old.prints) times
+        source.new }
 {
     let stops = stops_at(job.until);
     match job.input {
@@ -246,6 +254,11 @@ fn play<
         → IsPrinting K.written K.faults before first out.old → first ≤ K.faults out.new.sink }
     ensures wear { (A.state array.new).wear ≡ (A.state array.old).wear }
     ensures unread { is_source job.now.input ≡ false → source.new ≡ source.old }
+    ensures waits { (before : Option (List ℕ)) (first : ℕ)
+        → IsPrinting K.written K.faults before first out.old
+        → (times : ℕ) × TellsFirst (total_of job.now.shape) S.left S.taken S.faults source.old
+        K.written before (IsTextOf B M E job.now.shape job.now.seed out.old.prints) times
+        source.new }
 {
     let behind = match serve_rows(alloc, job, pcm, array, source, out) {
         Ok(behind) => behind,
@@ -278,9 +291,13 @@ pub fn stream<
     requires layout { IsLayout B M E }
     requires wide { 16 ≤ B }
     requires job { IsStreamJob job.now }
-    ensures { Ends B M E job.now (source_between S.left S.taken S.faults source.old source.new)
+    ensures ends { Ends B M E job.now
+        (source_between S.left S.taken S.faults source.old source.new)
         (lent_sink K.written K.faults out.value result.1.value) (A.state array.new)
         (A.changes array.new) result.0 }
+    ensures waits { WaitsOn IsJobText
+        (source_between S.left S.taken S.faults source.old source.new)
+        K.written (K.written out.value) B M E job.now }
 {
     each_row_is_told();
     ended_streams_are_kept();

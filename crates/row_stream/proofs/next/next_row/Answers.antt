@@ -1,5 +1,6 @@
-use Rattle.std.proofs.Common.{◌≡◌, Err, ap}
+use Rattle.std.proofs.Common.{◌≡◌, Err, ap, inl, refl}
 use Rattle.trace_stream.specs.declared.fault.StreamFault.TheVariants as fault
+use Rattle.row_stream.{specs.Stepping.TellsNoMore, proofs.Steps.asks-behind}
 use Rattle.row_stream.proofs.next.next_row.Goals as goal
 
 pub returns-in-Ok-next-clause-ok : goal.returns-in-Ok-next-clause-ok
@@ -29,3 +30,19 @@ returns-in-Err-clause-err g c =
       memory = λ is. e.memory (ap Err is);
       calm = λ other. e.no_fault (λ is. let same : c.in-Err.fault ≡ fault.Read = cc in other same);
     }
+
+-- it was asked behind what was written
+pub returns-in_default-clause-waits : goal.returns-in_default-clause-waits
+returns-in_default-clause-waits g c = inl refl
+
+pub returns-in-Ok-next-clause-waits : goal.returns-in-Ok-next-clause-waits
+returns-in-Ok-next-clause-waits g c =
+    let e = c.flush.ensures in
+    let told : TellsNoMore c.args.out.now c.flush.new.self = record { rows = e.rows; told = e.told; snapshots = e.snapshots; prints = e.prints } in
+    asks-behind g.K.Sink.written g.K.Sink.faults c.args.out.now c.args.source.now c.next.new.source c.args.stream.now c.flush.new.self told c.next.ensures.prompt c.in-Ok.ensures.ok
+
+pub returns-in-Err-clause-waits : goal.returns-in-Err-clause-waits
+returns-in-Err-clause-waits g c =
+    let e = c.flush.ensures in
+    let told : TellsNoMore c.args.out.now c.flush.new.self = record { rows = e.rows; told = e.told; snapshots = e.snapshots; prints = e.prints } in
+    asks-behind g.K.Sink.written g.K.Sink.faults c.args.out.now c.args.source.now c.next.new.source c.args.stream.now c.flush.new.self told c.next.ensures.prompt c.in-Ok.ensures.ok

@@ -1,7 +1,7 @@
 use Rattle.std.proofs.Common.{◌∙◌, ℕ, Err, ap, inl, inr, refl, sym, subst, arith}
 use Rattle.module_shape.specs.Limits.{total_of}
 use Rattle.trace_stream.specs.Asked.{NamesRow}
-use Rattle.row_stream.{specs.Stepping.TellsNoMore, proofs.Rows.{asked-ever, asked_fits}, proofs.Steps.{asks-behind, may-serve, takes-behind, writes-behind, writes-stop}}
+use Rattle.row_stream.{specs.Stepping.TellsNoMore, proofs.Rows.{asked-ever, asked_fits}, proofs.Steps.{may-serve, takes-behind, writes-behind, writes-stop}}
 use Rattle.row_stream.proofs.stepping.take_given.Goals as goal
 
 pub take_row-requires : goal.take_row-requires
@@ -52,16 +52,10 @@ returns-in-Err-clause-writes g c =
 
 -- what was known was written before the source was asked
 pub returns-in-Ok-Some-clause-waits : goal.returns-in-Ok-Some-clause-waits
-returns-in-Ok-Some-clause-waits g c =
-    let e = c.next_row.ensures in
-    asks-behind g.K.Sink.written g.K.Sink.faults c.args.out.now c.args.source.now c.next_row.new.source c.next_row.new.out (record { rows = e.rows; told = e.told; snapshots = e.snapshots; prints = e.prints }) e.waits
+returns-in-Ok-Some-clause-waits g c = c.next_row.ensures.waits
 
 pub returns-in-Ok-None-clause-waits : goal.returns-in-Ok-None-clause-waits
-returns-in-Ok-None-clause-waits g c =
-    let e = c.next_row.ensures in
-    asks-behind g.K.Sink.written g.K.Sink.faults c.args.out.now c.args.source.now c.next_row.new.source c.next_row.new.out (record { rows = e.rows; told = e.told; snapshots = e.snapshots; prints = e.prints }) e.waits
+returns-in-Ok-None-clause-waits g c = c.next_row.ensures.waits
 
 pub returns-in-Err-clause-waits : goal.returns-in-Err-clause-waits
-returns-in-Err-clause-waits g c =
-    let e = c.next_row.ensures in
-    asks-behind g.K.Sink.written g.K.Sink.faults c.args.out.now c.args.source.now c.next_row.new.source c.next_row.new.out (record { rows = e.rows; told = e.told; snapshots = e.snapshots; prints = e.prints }) e.waits
+returns-in-Err-clause-waits g c = c.next_row.ensures.waits

@@ -3,7 +3,7 @@ use Rattle.pcm_io.proofs.ByteLemmas.{Takes-nothing}
 use Rattle.module_shape.specs.Limits.{total_of}
 use Rattle.trace_reader.proofs.Sizes.{event_fits}
 use Rattle.trace_stream.specs.{Stream.Standing, declared.asked.Asked.TheVariants.Happens}
-use Rattle.row_stream.{specs.Stepping.Steps, proofs.Rows.asked-ever}
+use Rattle.row_stream.{specs.Stepping.{AsksBehind, Steps}, proofs.Rows.asked-ever}
 use Rattle.row_stream.proofs.stepping.take_next.Goals as goal
 
 -- an event that has come
@@ -50,4 +50,5 @@ returns-clause-steps g c =
     c.args.source.now c.take_given.new.source s c.take_given.new.stream c.args.out.now c.take_given.new.out c.args.behind c.take_given.result) c.in_default.ensures.none c.take_given.ensures.steps
 
 pub returns-clause-waits : goal.returns-clause-waits
-returns-clause-waits g c = c.take_given.ensures.waits
+returns-clause-waits g c =
+    subst (λ (s : Standing). AsksBehind g.K.Sink.written g.K.Sink.faults c.args.source.now c.take_given.new.source s c.args.out.now) c.in_default.ensures.none c.take_given.ensures.waits

@@ -67,3 +67,13 @@ returns-in_default-clause-falls g c = λ before first h.
 pub returns-clause-falls : goal.returns-clause-falls
 returns-clause-falls g c = λ before first h.
     (c.flush.ensures.printing before first (c.end.ensures.printing before first (c.serve_rows.ensures.printing before first h))).never_falls
+
+-- the source was asked as rows were served
+pub returns-in-Err-clause-waits : goal.returns-in-Err-clause-waits
+returns-in-Err-clause-waits g c = c.serve_rows.ensures.waits
+
+pub returns-in_default-clause-waits : goal.returns-in_default-clause-waits
+returns-in_default-clause-waits g c = c.serve_rows.ensures.waits
+
+pub returns-clause-waits : goal.returns-clause-waits
+returns-clause-waits g c = c.serve_rows.ensures.waits

@@ -1,4 +1,4 @@
-use Rattle.std.proofs.Common.{◌≡◌, ◌∙◌, Err, ap, refl, sym, subst}
+use Rattle.std.proofs.Common.{◌≡◌, ◌∙◌, zero, Err, ap, refl, sym, subst}
 use Rattle.command_line.specs.declared.job.Input.{Input}
 use Rattle.row_stream.specs.Serving.{told_so_far}
 use Rattle.stream_top.specs.{Calls.source_between, Streams.{ComeFrom, GoesAsFarAs, HasCause, StopsBy}, declared.fault.Fault.Fault, declared.fault.Fault.TheVariants.Write}
@@ -36,3 +36,16 @@ returns-in-Err-serve_drawn-clause-stopped g c =
     let s = c.in-Err-serve_drawn.ensures.stopped c.args.job.now.shape c.args.job.now.seed c.requires.begins in
     let By : Input → Type 0 = λ i. StopsBy g.row.B g.row.M g.row.E c.args.job.now (source_between g.S.Source.left g.S.Source.taken g.S.Source.faults c.args.source.now c.args.source.now) i Write s.0 in
     (s.0, s.1, subst By (sym c.in-Drawn.is) (refl, refl, s.2), went-by c.stops_at-stops.result _ c.stops_at-stops.ensures s.0 (told_so_far s.1) s.3)
+
+-- a source was asked behind what was written, and where rows are drawn not at all
+pub returns-in-Ok-clause-waits : goal.returns-in-Ok-clause-waits
+returns-in-Ok-clause-waits g c = c.serve_source.ensures.waits c.args.job.now.shape c.args.job.now.seed c.requires.begins
+
+pub returns-in-Err-clause-waits : goal.returns-in-Err-clause-waits
+returns-in-Err-clause-waits g c = c.serve_source.ensures.waits c.args.job.now.shape c.args.job.now.seed c.requires.begins
+
+pub returns-in-Ok-serve_drawn-clause-waits : goal.returns-in-Ok-serve_drawn-clause-waits
+returns-in-Ok-serve_drawn-clause-waits g c = λ before first h. (zero, refl)
+
+pub returns-in-Err-serve_drawn-clause-waits : goal.returns-in-Err-serve_drawn-clause-waits
+returns-in-Err-serve_drawn-clause-waits g c = λ before first h. (zero, refl)

@@ -1,9 +1,9 @@
-use Rattle.std.proofs.Common.{◌≡◌, ◌∙◌, ◌≤◌, inl, Err, Ok, ap, refl, arith, rules}
+use Rattle.std.proofs.Common.{◌≡◌, ◌∙◌, ◌≤◌, inl, zero, Err, Ok, ap, refl, arith, rules}
 use Rattle.row_stream.specs.Asking.{stays_off, with_cut}
 use Rattle.bank_timing.proofs.Sizes.{timed_fits}
 use Rattle.program_calls.specs.Calls.{sink_change}
 use Rattle.stream_top.specs.{Calls.source_between, Leaving.senses_for, Streams.{is_off, shown_by}}
-use Rattle.stream_top.proofs.{Keeping.{calm-done, calm-fault, never-failed, stream-breaks, stream-part, stream-stops, stream-whole}, Playing.has-image}
+use Rattle.stream_top.proofs.{Keeping.{calm-done, calm-fault, never-failed, stream-breaks, stream-part, stream-stops, stream-whole}, Playing.has-image, Waiting.waits-shown}
 use Rattle.stream_top.proofs.serving.stream.Goals as goal
 
 pub drop-pcm-inside-requires-room-T-Destruct : goal.drop-pcm-inside-requires-room-T-Destruct
@@ -52,8 +52,8 @@ print_closing-requires g c =
     )
 
 -- it stopped at a fault, or the output failed before the text of the end
-pub returns-in-Err-play : goal.returns-in-Err-play
-returns-in-Err-play g c =
+pub returns-in-Err-play-clause-ends : goal.returns-in-Err-play-clause-ends
+returns-in-Err-play-clause-ends g c =
     let p = c.in-Err-play.ensures in
     let new = c.play.new in
     let source = source_between g.S.Source.left g.S.Source.taken g.S.Source.faults c.args.source.now new.source in
@@ -76,8 +76,8 @@ returns-in-Err-play g c =
     }
 
 -- it was served to its end, and all was written
-pub returns-in-Ok-print_closing : goal.returns-in-Ok-print_closing
-returns-in-Ok-print_closing g c =
+pub returns-in-Ok-print_closing-clause-ends : goal.returns-in-Ok-print_closing-clause-ends
+returns-in-Ok-print_closing-clause-ends g c =
     let p = c.in-Ok-play.ensures in
     let new = c.play.new in
     let source = source_between g.S.Source.left g.S.Source.taken g.S.Source.faults c.args.source.now new.source in
@@ -101,8 +101,8 @@ returns-in-Ok-print_closing g c =
     }
 
 -- so it was, and the output failed within the text of the end
-pub returns : goal.returns
-returns g c =
+pub returns-clause-ends : goal.returns-clause-ends
+returns-clause-ends g c =
     let p = c.in-Ok-play.ensures in
     let new = c.play.new in
     let source = source_between g.S.Source.left g.S.Source.taken g.S.Source.faults c.args.source.now new.source in
@@ -126,3 +126,25 @@ returns g c =
       cause = λ other. absurd (other refl);
       unread = p.unread;
     }
+
+-- the source was asked behind what was written, and without memory not at all
+pub returns-in-Err-clause-waits : goal.returns-in-Err-clause-waits
+returns-in-Err-clause-waits g c = (zero, refl)
+
+pub returns-in-Err-play-clause-waits : goal.returns-in-Err-play-clause-waits
+returns-in-Err-play-clause-waits g c =
+    let shown = c.shown_of-shown.ensures.is ∙ ap (λ raw. shown_by raw c.args.job.now.print) c.raw.ensures.same in
+    waits-shown g.row.B g.row.M g.row.E c.args.job.now (source_between g.S.Source.left g.S.Source.taken g.S.Source.faults c.args.source.now c.play.new.source) g.K.Sink.written (g.K.Sink.written c.args.out.value)
+    c.new-printer.result.prints c.requires.job (c.new-printer.ensures.prints ∙ shown) (c.play.ensures.waits _ _ c.new-printer.ensures.printing)
+
+pub returns-in-Ok-print_closing-clause-waits : goal.returns-in-Ok-print_closing-clause-waits
+returns-in-Ok-print_closing-clause-waits g c =
+    let shown = c.shown_of-shown.ensures.is ∙ ap (λ raw. shown_by raw c.args.job.now.print) c.raw.ensures.same in
+    waits-shown g.row.B g.row.M g.row.E c.args.job.now (source_between g.S.Source.left g.S.Source.taken g.S.Source.faults c.args.source.now c.play.new.source) g.K.Sink.written (g.K.Sink.written c.args.out.value)
+    c.new-printer.result.prints c.requires.job (c.new-printer.ensures.prints ∙ shown) (c.play.ensures.waits _ _ c.new-printer.ensures.printing)
+
+pub returns-clause-waits : goal.returns-clause-waits
+returns-clause-waits g c =
+    let shown = c.shown_of-shown.ensures.is ∙ ap (λ raw. shown_by raw c.args.job.now.print) c.raw.ensures.same in
+    waits-shown g.row.B g.row.M g.row.E c.args.job.now (source_between g.S.Source.left g.S.Source.taken g.S.Source.faults c.args.source.now c.play.new.source) g.K.Sink.written (g.K.Sink.written c.args.out.value)
+    c.new-printer.result.prints c.requires.job (c.new-printer.ensures.prints ∙ shown) (c.play.ensures.waits _ _ c.new-printer.ensures.printing)

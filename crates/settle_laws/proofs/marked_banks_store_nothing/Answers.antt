@@ -1,5 +1,5 @@
 use Rattle.settle_laws.proofs.Turning.{ended_mark_law, mark_law}
-use Rattle.settle_laws.proofs.exhausted_banks_accept_nothing.Goals as goal
+use Rattle.settle_laws.proofs.marked_banks_store_nothing.Goals as goal
 
 pub returns-clause-ended : goal.returns-clause-ended
 returns-clause-ended c = ended_mark_law
