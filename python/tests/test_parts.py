@@ -489,7 +489,7 @@ class Folders(Room):
             folder, words = self.room / kind, [*DRAWN, "--print", kind, "--parts", most]
             self.assertEqual((0, b"", ""), parts("--folder", folder, "--split", *words))
             self.assertEqual((0, b"", ""), parts("--folder", folder, "--part", 1))
-            self.assertEqual(["done.1", "told.1"], sorted(it.name for it in folder.glob("*.1")))
+            self.assertEqual(["done.1", "lock.1", "told.1"], sorted(it.name for it in folder.glob("*.1")))
             self.assertEqual((0, ",".join(str(it) for it in range(most) if it != 1).encode() + b"\n", ""), parts("--folder", folder, "--missing"))
             self.assertEqual(stream(*DRAWN, "--print", kind), parts("--folder", folder))
             program = self.standing()
