@@ -20,7 +20,7 @@ _VERSION = 2
 PLACED, KEPT = ("rows",), ("wear", "lines", "map")
 # A stream draws the rows of a part by itself where there are so few parts: it draws those of others more slowly than a pass in C does, and its
 # own without making text of them.
-_FEW = 4
+_FEW = 8
 
 
 def part_of(bank: int, banks: int, parts: int) -> int:

@@ -205,9 +205,10 @@ class _Call:
         """The words that start a pass. (Nobody waits for the compiler where none is made.)"""
         return self._held.enter_context(passes("python" not in self.given.flags))
 
-    def run(self, folder: Folder, asked: Asked, plays: bool = True) -> Run:
-        """A run in parts, whose program is built first where it plays and that isn't built."""
-        passing = plain_passes() if asked.draws_itself(True) and asked.kind not in KEPT else self.passing
+    def run(self, folder: Folder, asked: Asked, plays: bool, splits: bool) -> Run:
+        """A run in parts, whose program is built first where it plays and that isn't built, and its passes where there are some."""
+        is_behind = asked.kind in (*PLACED, *KEPT)
+        passing = self.passing if splits or is_behind or asked.is_drawn and not asked.draws_itself(True) else plain_passes()
         return Run(folder, asked, command("stream") if plays else [], passing, passing)
 
     @contextlib.contextmanager
@@ -258,7 +259,7 @@ class _Call:
         if split is None and asked.is_drawn:
             split = Split.drawn(asked)
             folder.note_split(split)
-        return split or self.split_by(self.run(folder, asked, False), work)
+        return split or self.split_by(self.run(folder, asked, False, True), work)
 
     def play(self, folder: Folder, asked: Asked, split: Split, parts: Sequence[int], goes_on: bool = True) -> None:
         """Plays these parts."""
@@ -272,7 +273,7 @@ class _Call:
             self.progress.tell(lambda: f"{done} of {len(parts)} parts played{share}")
 
         if parts:
-            play_parts(self.run(folder, asked), split, parts, self.jobs, tell, goes_on)
+            play_parts(self.run(folder, asked, True, False), split, parts, self.jobs, tell, goes_on)
 
     def play_at_once(self, folder: Folder, asked: Asked) -> Split:
         """Plays all parts as they are drawn, or while the trace is split."""
@@ -280,7 +281,7 @@ class _Call:
             split = Split.drawn(asked)
             self.play(folder, asked, split, range(asked.parts), False)
             return split
-        return self.split_by(self.run(folder, asked), lambda run, source: play_on_the_way(run, source, self.tell_reading(source)))
+        return self.split_by(self.run(folder, asked, True, True), lambda run, source: play_on_the_way(run, source, self.tell_reading(source)))
 
     def join(self, folder: Folder, asked: Asked, split: Split) -> int:
         """Prints what all parts told; answers the status of one stream."""
