@@ -6,9 +6,9 @@
 #include <stdint.h>
 #include <stdlib.h>
 
-static inline uint64_t split_mix(uint64_t *at)
+static inline uint64_t split_mix(uint64_t *state)
 {
-    uint64_t z = *at += UINT64_C(0x9E3779B97F4A7C15);
+    uint64_t z = *state += UINT64_C(0x9E3779B97F4A7C15);
     z = (z ^ z >> 30) * UINT64_C(0xBF58476D1CE4E5B9);
     z = (z ^ z >> 27) * UINT64_C(0x94D049BB133111EB);
     return z ^ z >> 31;

@@ -20,8 +20,8 @@
        each cut before it are taken off for each part but one.
 
    Status 2: the words; 3: what is read isn't as it should be; 4: reading failed; 5: writing failed; 7: out of memory. */
-#include "parts_place.h"
 #include "parts_split.h"
+#include "parts_place.h"
 
 /* Keeping the rows of a part's banks. */
 static int keep(int count, char **words)

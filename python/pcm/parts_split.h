@@ -418,22 +418,38 @@ static void know_module(uint64_t banks, uint64_t lines, uint64_t seed)
     whole.digits = lines > 100000 ? 8 : 5;
 }
 
+/* How parts are written: with an index, and the cut with which the power goes. */
+struct written {
+    const char *index;
+    int off;
+};
+
+/* Takes an option that says so; answers how many words that are, of so many, 0 where it is another. */
+static int take_option(struct written *how, int count, char **words)
+{
+    if (!strcmp(*words, "--off")) {
+        how->off = 1;
+        return 1;
+    }
+    if (strcmp(*words, "--index") || count < 2)
+        return 0;
+    how->index = words[1];
+    return 2;
+}
+
 static int split(int count, char **words)
 {
-    const char *index = NULL;
-    int off = 0;
-    for (; count && !strncmp(*words, "--", 2); count--, words++) {
-        if (!strcmp(*words, "--off"))
-            off = 1;
-        else if (!strcmp(*words, "--index") && count > 1)
-            index = *++words, count--;
-        else if (!strcmp(*words, "--piece") && count > 3) {
+    struct written how = {NULL, 0};
+    for (int taken; count && !strncmp(*words, "--", 2); count -= taken, words += taken) {
+        taken = take_option(&how, count, words);
+        if (!taken && !strcmp(*words, "--piece") && count > 3) {
             whole.is_piece = 1;
-            whole.piece = word_as_number(*++words);
-            whole.from = word_as_number(*++words);
-            whole.until = word_as_number(*++words);
-            count -= 3;
-        } else
+            whole.piece = word_as_number(words[1]);
+            whole.from = word_as_number(words[2]);
+            whole.until = word_as_number(words[3]);
+            taken = 4;
+        }
+        if (!taken)
             return 2;
     }
     if (count != 7 || whole.from > whole.until)
@@ -444,10 +460,10 @@ static int split(int count, char **words)
     if (whole.size != 64 && whole.size != 128)
         return 2;
     read_ranges(words[5]);
-    whole.has_index = index != NULL;
-    open_parts(words[6], index);
+    whole.has_index = how.index != NULL;
+    open_parts(words[6], how.index);
     split_trace();
-    if (off)
+    if (how.off)
         add_cut();
     close_parts();
     tell_parts();
@@ -457,26 +473,20 @@ static int split(int count, char **words)
 static int draw(int count, char **words)
 {
     struct drawn drawn;
-    const char *index = NULL;
-    int off = 0;
-    for (; count && !strncmp(*words, "--", 2); count--, words++) {
-        if (!strcmp(*words, "--off"))
-            off = 1;
-        else if (!strcmp(*words, "--index") && count > 1)
-            index = *++words, count--;
-        else
+    struct written how = {NULL, 0};
+    for (int taken; count && !strncmp(*words, "--", 2); count -= taken, words += taken)
+        if (!(taken = take_option(&how, count, words)))
             return 2;
-    }
     if (count != 3 || !drawn_by(&drawn, words[0]))
         return 2;
     know_module(word_as_number(words[1]), drawn.lines, strtoull(words[0], NULL, 10));
     read_ranges(words[2]);
     if (whole.parts != 1)
         return 2;
-    whole.has_index = index != NULL;
-    open_part(0, opened(1, "standard output"), index);
+    whole.has_index = how.index != NULL;
+    open_part(0, opened(1, "standard output"), how.index);
     draw_rows(drawn);
-    if (off)
+    if (how.off)
         add_cut();
     close_parts();
     return 0;
