@@ -285,6 +285,10 @@ def _together(command: Command, given: Dict[str, str]) -> Optional[str]:
     some = [name for name in ("first-bank", "last-bank") if streams and name in given]
     if some and (value["input"] != "drawn" or value["end"] != "drain"):
         return f"--{some[0]} belongs to --input drawn and --end drain alone"
+    if some and int(value["last-bank"]) < int(value["first-bank"]):
+        return f"--first-bank {value['first-bank']} is above --last-bank {value['last-bank']}"
+    if some and int(value["banks"]) <= int(value["first-bank"]):
+        return f"--first-bank {value['first-bank']}: the module has {value['banks']} bank{'s' * (value['banks'] != '1')}, from 0 on"
     if streams and "every" in given and value["print"] != "snapshots":
         return "--every belongs to --print snapshots alone"
     if streams and "tell" in given and value["print"] != "rows":
