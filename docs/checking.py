@@ -201,7 +201,7 @@ def ends(option):
 def beside(command, option, text):
     """The words beside an option's value that let no other rule speak: sizes small, and rows at one tick."""
     if option in ("first-bank", "last-bank"):
-        return ["--input", "drawn"]
+        return ["--input", "drawn", "--banks", "64"]
     if option == "every":
         return ["--print", "snapshots"]
     if option == "skip":

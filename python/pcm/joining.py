@@ -6,7 +6,7 @@ import subprocess
 from typing import BinaryIO, Dict, List, Sequence
 
 from .errors import PcmError, WriteFault
-from .parted import KEPT, PLACED, Asked, Broken, Folder
+from .parted import KEPT, PLACED, Asked, Broken, Folder, part_of
 
 _MOST = (1 << 64) - 1
 _MAGIC, _LARGE_MAGIC = b"PCMIMG01", b"PCMIMG02"
@@ -42,7 +42,7 @@ def energy(files: Sequence[BinaryIO], out: BinaryIO) -> None:
     for part, file in enumerate(files):
         head, *lines = _text(file)
         for fields in (line.split(",") for line in lines):
-            if fields[0] != "all" and int(fields[0]) % len(files) == part:
+            if fields[0] != "all" and part_of(int(fields[0]), len(lines) - 1, len(files)) == part:
                 rows[int(fields[0])] = fields
     sums = [min(sum(int(row[at]) for row in rows.values()), _MOST) for at in (1, 2, 3)]
     told = [",".join(rows[bank]) for bank in sorted(rows)]
@@ -109,10 +109,10 @@ def image(files: Sequence[BinaryIO], out: BinaryIO) -> None:
     out.write(images[0].head)
     for bank in range(banks):
         kept = [one.kept() for one in images]
-        out.write(kept[bank % len(files)])
+        out.write(kept[part_of(bank, banks, len(files))])
     for bank in range(banks):
         for part, one in enumerate(images):
-            one.copy_cells(bank, out, bank % len(files) == part)
+            one.copy_cells(bank, out, part_of(bank, banks, len(files)) == part)
     if images[0].is_large:
         out.write(_END.to_bytes(4, "little"))
 

@@ -13,7 +13,7 @@
 #include <string.h>
 #include <unistd.h>
 
-#include "xoshiro.h"
+#include "drawn.h"
 
 static void leave(int status, const char *why)
 {
@@ -169,45 +169,39 @@ static uint64_t number(char **at)
 
 /* Where arrivals come from. */
 static struct lines trace;
-static uint64_t drawn[8]; /* seed, rows, percent, cuts, step, hot, lines, bytes */
+static struct drawn drawn;
 static int is_drawn;
 static uint64_t arrived, now;
 static struct map waiting;
 enum { READ, WRITE, CUT };
 
+/* The next row of a drawn trace, as `come` has it. */
+static int come_drawn(void)
+{
+    enum drawn_op op = drawn_row(&drawn);
+    for (uint64_t i = 0; op == DRAWN_WRITE && i < drawn.words; i++)
+        drawn_word(&drawn);
+    now = drawn.tick;
+    arrived += op != DRAWN_END;
+    return op == DRAWN_READ ? READ : op == DRAWN_WRITE ? WRITE : op == DRAWN_CUT ? CUT : -1;
+}
+
 /* The next row comes at `now`; what it is, or -1 where there is none. */
 static int come(void)
 {
-    int op = CUT;
-    if (is_drawn) {
-        if (arrived == drawn[1])
+    char *line;
+    if (is_drawn)
+        return come_drawn();
+    do {
+        line = lines_next(&trace);
+        if (!line)
             return -1;
-        uint64_t part = drawn[1] / (drawn[3] + 1);
-        if (part == 0)
-            part = 1;
-        arrived++;
-        now += drawn_word() % (drawn[4] + 1);
-        if (arrived % part != 0 || arrived / part > drawn[3]) {
-            uint64_t which = drawn_word();
-            op = (which >> 32) % 100 < drawn[2] ? WRITE : READ;
-            if (op == WRITE)
-                for (uint64_t i = 0; i < drawn[7] / 8; i++)
-                    drawn_word();
-        }
-    } else {
-        char *line;
-        do {
-            line = lines_next(&trace);
-            if (!line)
-                return -1;
-            now = number(&line);
-            if (!strchr("RWMCSQUL", *line) || line[1] != ',')
-                leave(3, NULL);
-        } while (strchr("SQUL", *line));
-        op = *line == 'R' ? READ : *line == 'C' ? CUT : WRITE;
-        arrived++;
-    }
-    return op;
+        now = number(&line);
+        if (!strchr("RWMCSQUL", *line) || line[1] != ',')
+            leave(3, NULL);
+    } while (strchr("SQUL", *line));
+    arrived++;
+    return *line == 'R' ? READ : *line == 'C' ? CUT : WRITE;
 }
 
 /* The next row arrives; whether there was one. */
@@ -266,10 +260,8 @@ int main(int count, char **words)
     map_make(&waiting, 1 << 12);
     map_make(&far, 1 << 12);
     if (is_drawn) {
-        char *at = words[2];
-        for (int i = 0; i < 8; i++, at += *at == ',')
-            drawn[i] = strtoull(at, &at, 10);
-        draw_by(drawn[0]);
+        if (!drawn_by(&drawn, words[2]))
+            leave(2, "--drawn wants eight numbers");
     } else {
         lines_open(&trace, words[1], 0);
         char *head = lines_next(&trace);

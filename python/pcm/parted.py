@@ -9,15 +9,23 @@ import pathlib
 from dataclasses import dataclass, field
 from typing import Dict, Iterator, List, NamedTuple, Optional, Tuple
 
-from .drawn import draw_of
+from .drawn import Draw, draw_of
 from .errors import PcmError, UsageError
 from .runs import DRAWN, Shape
 from .words import COMMANDS
 
 # What stands in a file of the folder that says how parts were asked for.
-_VERSION = 1
+_VERSION = 2
 # Of what is printed: rows, which are put in their places, and reports of which each part keeps the rows of its banks.
 PLACED, KEPT = ("rows",), ("wear", "lines", "map")
+# A stream draws the rows of a part by itself where there are so few parts: it draws those of others more slowly than a pass in C does, and its
+# own without making text of them.
+_FEW = 8
+
+
+def part_of(bank: int, banks: int, parts: int) -> int:
+    """The part that has a bank: banks that follow each other are in one, and all parts have as many, but for one."""
+    return bank * parts // banks
 
 
 class InUse(PcmError):
@@ -71,10 +79,36 @@ class Asked:
         shape = self.shape
         return (shape.regions + shape.spares + 1) * shape.banks * shape.in_array
 
+    def banks_of(self, part: int) -> str:
+        """The banks of a part, the first one and the last one."""
+        first, behind = (-(-it * self.banks // self.parts) for it in (part, part + 1))
+        return f"{first}-{behind - 1}"
+
+    @property
+    def draw(self) -> Draw:
+        """How its rows are drawn."""
+        return draw_of({name: self.value(name) for name in COMMANDS["stream"].options})
+
+    def draws_itself(self, is_fast: bool) -> bool:
+        """Whether the stream of a part draws its rows, where the pass that may do so is fast or isn't."""
+        if not self.is_drawn or self.kind in PLACED or self.value("end") == "off" or not COMMANDS["stream"].options["rows"].takes(self.value("rows")):
+            return False
+        return self.parts <= _FEW or not is_fast
+
     def words(self) -> List[str]:
-        """The words of the stream of a part."""
+        """The words of the stream of a part whose rows it reads."""
         left_out = ("input", *DRAWN)
         return [word for name, value in self.options.items() if name not in left_out for word in (f"--{name}", value)]
+
+    def drawn_words(self, part: int) -> List[str]:
+        """Those of one that draws them itself."""
+        first, last = self.banks_of(part).split("-")
+        return [*(word for name, value in self.options.items() for word in (f"--{name}", value)), "--first-bank", first, "--last-bank", last]
+
+    def drawing(self, part: int, index: Optional[pathlib.Path]) -> List[str]:
+        """The words of the pass that draws a part."""
+        words = ["draw", *["--off"] * (self.value("end") == "off"), *(["--index", str(index)] if index else [])]
+        return [*words, ",".join(map(str, self.draw)), self.value("banks"), self.banks_of(part)]
 
     def splitting(self, folder: pathlib.Path, to: str, piece: "Optional[Piece]" = None) -> List[str]:
         """The words of the pass that splits the trace, or a piece of it, behind all of which a cut is still to be added."""
@@ -83,10 +117,8 @@ class Asked:
             words += ["--index", str(folder / "index.")]
         if piece is not None:
             words += ["--piece", *map(str, piece)]
-        if self.is_drawn:
-            values = {name: self.value(name) for name in COMMANDS["stream"].options}
-            words += ["--drawn", ",".join(map(str, draw_of(values)[:6]))]
-        return [*words, *(self.value(name) for name in ("banks", "regions", "lines", "seed", "line")), str(self.parts), to]
+        ranges = ",".join(map(self.banks_of, range(self.parts)))
+        return [*words, *(self.value(name) for name in ("banks", "regions", "lines", "seed", "line")), ranges, to]
 
 
 class Piece(NamedTuple):
@@ -122,11 +154,20 @@ class Told:
 
 @dataclass
 class Split:
-    """What a trace was split into: its rows with a number, those of each part, and the bytes of each part's pieces."""
+    """What a trace was split into: its rows with a number, those of each part, and the bytes of each part's pieces. A drawn trace has none."""
 
     rows: int
     counts: List[int]
     sizes: List[List[int]]
+
+    @staticmethod
+    def drawn(asked: Asked) -> "Split":
+        """That of a drawn trace, whose parts are drawn each by itself."""
+        _, rows, _, cuts, *_ = asked.draw
+        # (a row with the power's last cut more, unless one is a cut by itself)
+        apart = max(1, rows // (cuts + 1))
+        more = asked.value("end") == "off" and not (rows % apart == 0 and rows // apart <= cuts)
+        return Split(rows + more, [], [[]] * asked.parts)
 
 
 class Folder:

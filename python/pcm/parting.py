@@ -3,8 +3,8 @@
 usage: python3 -m pcm parts [TRACE] [--jobs N] [options] [options of ./pcm stream]      (or ./pcm parts ..)
 
 It prints, byte for byte, what `./pcm stream` prints by its options over the same trace (a file, or standard input), or drawn by `--input
-drawn`, and ends with its status. A module's banks share nothing but what all are told, so part K has the rows of the lines of banks b with
-b mod P = K, all cuts, and all that settles.
+drawn`, and ends with its status. A module's banks share nothing but what all are told, so a part has the rows of the lines of some banks that
+follow each other, all cuts, and all that settles.
 
   --jobs N         so many streams at a time (as many as this machine has processors)
   --parts P        in so many parts, at most one for each bank (as many as jobs; with --folder one for each bank)
@@ -18,8 +18,8 @@ b mod P = K, all cuts, and all that settles.
   --progress       standard error tells how far it is, also where that isn't a terminal
 
 With a folder whose trace was split `--folder FOLDER` is enough: it knows the rest. Without one the trace is split on its way to all parts
-at once, and what they print is kept in a temporary folder (TMPDIR says where) until all is joined. A trace may have more rows than one
-stream takes, as long as no part has.
+at once, and what they print is kept in a temporary folder (TMPDIR says where) until all is joined. Of a drawn trace nothing is split: each
+part is drawn by itself. A trace may have more rows than one stream takes, as long as no part has.
 
 Not in parts: --print snapshots (they are due by numbers of rows of the whole trace; a look, `tick,L,,`, is joined), --until refused (which
 row is the first of all no part knows), --first-bank and --last-bank (parts are banks), and a settle until, `tick,U,ROW,`, which is told
@@ -31,6 +31,7 @@ import contextlib
 import dataclasses
 import functools
 import os
+import re
 import signal
 import sys
 import tempfile
@@ -39,12 +40,12 @@ from typing import Callable, Dict, Iterator, List, Optional, Sequence
 
 from .errors import UsageError, error_of
 from .joining import join
-from .parted import Asked, Broken, Folder, Split, trace_of
-from .playing import NotPlain, Run, SplitFailed, passes, plain_passes, play_from_files, play_on_the_way, split_to_files
+from .parted import KEPT, PLACED, Asked, Broken, Folder, Split, trace_of
+from .playing import NotPlain, Run, SplitFailed, passes, plain_passes, play_on_the_way, play_parts, split_to_files
 from .program import command
 from .progress import Progress
 from .tables import answered
-from .words import COMMANDS, wrong_word
+from .words import COMMANDS, LATEST_TICK, wrong_word
 
 _VALUES = ("jobs", "parts", "order", "folder", "part", "pieces")
 _FLAGS = ("split", "missing", "python", "progress")
@@ -95,13 +96,36 @@ def read_words(words: Sequence[str]) -> Given:
             given.values[name] = value if sign else left.pop(0)
         else:
             streams += [word] if sign or not left or left[0].startswith("--") else [word, left.pop(0)]
-    wrong = wrong_word(["stream", *streams])
-    if wrong:
-        raise UsageError(2, wrong)
     pairs = [part for word in streams for part in (word.split("=", 1) if word.startswith("--") else [word])]
     given.options = {name[2:]: value for name, value in zip(pairs[::2], pairs[1::2])}
+    wrong = _wrong_word(streams, given.options)
+    if wrong:
+        raise UsageError(2, wrong)
     _refuse(given)
     return given
+
+
+def _wrong_word(words: Sequence[str], options: Dict[str, str]) -> Optional[str]:
+    """What is wrong with the words of the stream: of all parts together more rows may be drawn than one stream takes."""
+    of_rows, of_steps = (COMMANDS["stream"].options[name] for name in ("rows", "step"))
+    rows, steps = options.get("rows", ""), options.get("step", of_steps.default)
+    if options.get("input") != "drawn" or not re.fullmatch("[0-9]{10,13}", rows) or int(rows) <= of_rows.most or not of_steps.takes(steps):
+        return wrong_word(["stream", *words])
+    wrong = wrong_word(["stream", *_with("rows", str(of_rows.most), _with("step", "0", words))])
+    if wrong is None and int(rows) * int(steps) > LATEST_TICK:
+        return f"--rows times --step is {int(rows) * int(steps)}: it may be at most {LATEST_TICK}"
+    return wrong
+
+
+def _with(name: str, value: str, words: Sequence[str]) -> List[str]:
+    """Words with another value of an option."""
+    found = list(words)
+    for at, word in enumerate(words):
+        if word == f"--{name}" and at + 1 < len(words):
+            found[at + 1] = value
+        elif word.startswith(f"--{name}="):
+            found[at] = f"--{name}={value}"
+    return found
 
 
 def _refuse(given: Given) -> None:
@@ -181,17 +205,16 @@ class _Call:
         """The words that start a pass. (Nobody waits for the compiler where none is made.)"""
         return self._held.enter_context(passes("python" not in self.given.flags))
 
-    def run(self, folder: Folder, asked: Asked, plays: bool = True) -> Run:
-        """A run in parts, whose program is built first where it plays and that isn't built."""
-        return Run(folder, asked, command("stream") if plays else [], self.passing, self.passing)
+    def run(self, folder: Folder, asked: Asked, plays: bool, splits: bool) -> Run:
+        """A run in parts, whose program is built first where it plays and that isn't built, and its passes where there are some."""
+        is_behind = asked.kind in (*PLACED, *KEPT)
+        passing = self.passing if splits or is_behind or asked.is_drawn and not asked.draws_itself(True) else plain_passes()
+        return Run(folder, asked, command("stream") if plays else [], passing, passing)
 
     @contextlib.contextmanager
     def source(self, asked: Asked) -> Iterator[int]:
         """What the splitter reads, from where it stands now on."""
-        if asked.is_drawn:
-            with open(os.devnull, "rb") as file:
-                yield file.fileno()
-        elif asked.trace is None:
+        if asked.trace is None:
             yield 0
         else:
             with open(asked.trace, "rb", buffering=0) as file:
@@ -225,16 +248,20 @@ class _Call:
         return tell
 
     def split(self, folder: Folder, asked: Asked) -> Split:
-        """Splits the trace into a folder, unless it is there."""
+        """Splits the trace into a folder, unless it is there, or drawn."""
         def work(run: Run, source: int) -> Split:
             pieces = 1
-            if not asked.is_drawn and _is_file(source) and os.lseek(source, 0, os.SEEK_CUR) == 0:
+            if _is_file(source) and os.lseek(source, 0, os.SEEK_CUR) == 0:
                 pieces = self.given.number("pieces", 1, 64) or max(1, min(self.jobs, 64, os.fstat(source).st_size // _LEAST_PIECE))
             return split_to_files(run, source, self.tell_reading(source), pieces)
 
-        return folder.split() or self.split_by(self.run(folder, asked, False), work)
+        split = folder.split()
+        if split is None and asked.is_drawn:
+            split = Split.drawn(asked)
+            folder.note_split(split)
+        return split or self.split_by(self.run(folder, asked, False, True), work)
 
-    def play(self, folder: Folder, asked: Asked, split: Split, parts: Sequence[int]) -> None:
+    def play(self, folder: Folder, asked: Asked, split: Split, parts: Sequence[int], goes_on: bool = True) -> None:
         """Plays these parts."""
         for part in parts:
             if folder.sizes(part, len(split.sizes[part])) != split.sizes[part]:
@@ -242,19 +269,24 @@ class _Call:
         whole = max(1, sum(sum(split.sizes[part]) for part in parts))
 
         def tell(done: int, read: int) -> None:
-            self.progress.tell(lambda: f"{done} of {len(parts)} parts played, {100 * read / whole:.0f}%")
+            share = "" if asked.is_drawn else f", {100 * read / whole:.0f}%"
+            self.progress.tell(lambda: f"{done} of {len(parts)} parts played{share}")
 
         if parts:
-            play_from_files(self.run(folder, asked), split, parts, self.jobs, tell)
+            play_parts(self.run(folder, asked, True, False), split, parts, self.jobs, tell, goes_on)
 
     def play_at_once(self, folder: Folder, asked: Asked) -> Split:
-        """Plays all parts while the trace is split."""
-        return self.split_by(self.run(folder, asked), lambda run, source: play_on_the_way(run, source, self.tell_reading(source)))
+        """Plays all parts as they are drawn, or while the trace is split."""
+        if asked.is_drawn:
+            split = Split.drawn(asked)
+            self.play(folder, asked, split, range(asked.parts), False)
+            return split
+        return self.split_by(self.run(folder, asked, True, True), lambda run, source: play_on_the_way(run, source, self.tell_reading(source)))
 
     def join(self, folder: Folder, asked: Asked, split: Split) -> int:
         """Prints what all parts told; answers the status of one stream."""
         self.progress.clear()
-        return join(folder, asked, split.rows, self.passing, sys.stdout.buffer)
+        return join(folder, asked, split.rows, self.passing if asked.kind in (*PLACED, *KEPT) else [], sys.stdout.buffer)
 
 
 def _is_file(fd: int) -> bool:

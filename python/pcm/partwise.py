@@ -1,6 +1,6 @@
 """The passes of `python3 -m pcm parts` in Python: what parts.c does where there is a C compiler, byte for byte; its head says what each is.
 
-    python3 partwise.py split|place|keep|merge WORD ..
+    python3 partwise.py split|draw|place|keep|merge WORD ..
 
 It takes any trace that the program takes: quotes, empty lines and a byte order mark, too."""
 import argparse
@@ -10,7 +10,7 @@ import io
 import os
 import struct
 import sys
-from typing import BinaryIO, Callable, Dict, Iterator, List, NamedTuple, Optional, Sequence, Union
+from typing import BinaryIO, Callable, Dict, Iterator, List, NamedTuple, Optional, Sequence, Tuple, Union
 
 if not __package__:
     sys.path[0] = os.path.dirname(os.path.dirname(os.path.abspath(__file__)))
@@ -54,27 +54,25 @@ class _Part(NamedTuple):
     known: Optional[BinaryIO]
 
 
-class _Splitter:
-    """Rows on their way to the parts of their banks."""
+def _range(text: str) -> range:
+    """The banks of a part, as FIRST-LAST."""
+    first, _, last = text.partition("-")
+    return range(int(first), int(last) + 1)
 
-    def __init__(self, asked: argparse.Namespace) -> None:
-        self._lines_of_bank = asked.regions * asked.lines
-        self.lines = asked.banks * self._lines_of_bank
-        self.size = asked.size
-        self._place = Randomiser(self.lines, asked.seed).place
-        piece, is_first = (asked.piece[0], asked.piece[1] == 0) if asked.piece else (0, True)
-        names = [f"{asked.to}{part}.{piece}" for part in range(asked.parts)]
-        outs: Sequence[Union[int, str]] = names
-        if asked.to[:1].isdigit():
-            outs = [int(fd) for fd in asked.to.split(",")]
-        # (an index is at the bottom: no part has a row of which nothing is known)
-        self._parts = [
-            _Part(open(out, "wb"), open(f"{asked.index}{part}.{piece}", "wb") if asked.index else None) for part, out in enumerate(outs)
-        ]
+
+class _Splitter:
+    """Rows on their way to the parts of their banks, in a module of so many lines in so many banks, by the seed of its randomiser."""
+
+    def __init__(self, sizes: Tuple[int, int, int], parts: Sequence[Tuple[range, _Part]], has_header: bool) -> None:
+        banks, self.lines, seed = sizes
+        self._lines_of_bank = self.lines // banks
+        self._place = Randomiser(self.lines, seed).place
+        self._parts = [part for _, part in parts]
+        self._part_of = {bank: number for number, (banks_of, _) in enumerate(parts) for bank in banks_of}
         self.first: Optional[int] = None
         self.rows, self.tick, self.ends_in_cut = 0, 0, False
-        self._counts, self._noted, self._is_piece = [0] * asked.parts, [0] * asked.parts, asked.piece is not None
-        for part in self._parts if is_first else ():
+        self._counts, self._noted = [0] * len(parts), [0] * len(parts)
+        for part in self._parts if has_header else ():
             part.rows.write(HEADER.encode())
 
     def take(self, op: str, tick: int, line: int, row: bytes) -> None:
@@ -87,7 +85,7 @@ class _Splitter:
             bank, to = 0, list(range(len(self._parts)))
         else:
             bank = self._place(line) // self._lines_of_bank
-            to = [bank % len(self._parts)]
+            to = [self._part_of[bank]] if bank in self._part_of else []
         for part in to:
             self._counts[part] += kind != SETTLE
             self._note(part, tick << 9 | bank << 3 | kind, line)
@@ -109,8 +107,10 @@ class _Splitter:
         self._noted[part] = self.rows
         return passed
 
-    def end(self) -> str:
-        """Closes all files; what is told of them."""
+    def end(self, off: bool) -> None:
+        """Adds the cut with which the power goes, where it does, and closes all files."""
+        if off and self.first is not None and not self.ends_in_cut:
+            self.take("C", self.tick, 0, f"{self.tick},C,,\n".encode())
         for number, part in enumerate(self._parts):
             if part.known:
                 self._note_passed(part.known, number, 0)
@@ -118,7 +118,10 @@ class _Splitter:
             part.rows.flush()
         for part in self._parts:
             part.rows.close()
-        ticks = f"ticks {self.first} {self.tick} {int(self.ends_in_cut)}\n" if self._is_piece and self.first is not None else ""
+
+    def told(self, is_piece: bool) -> str:
+        """What is told of all parts."""
+        ticks = f"ticks {self.first} {self.tick} {int(self.ends_in_cut)}\n" if is_piece and self.first is not None else ""
         return "".join(f"part {part} {count}\n" for part, count in enumerate(self._counts)) + f"{ticks}rows {self.rows}\n"
 
 
@@ -126,28 +129,47 @@ def _split(words: Sequence[str]) -> None:
     parser = argparse.ArgumentParser(add_help=False)
     parser.add_argument("--off", action="store_true")
     parser.add_argument("--index")
-    parser.add_argument("--drawn")
     parser.add_argument("--piece", type=int, nargs=3)
-    for name in ("banks", "regions", "lines", "seed", "size", "parts"):
+    for name in ("banks", "regions", "lines", "seed", "size"):
         parser.add_argument(name, type=int)
+    parser.add_argument("ranges")
     parser.add_argument("to")
     asked = parser.parse_args(words)
-    splitter = _Splitter(asked)
-    if asked.drawn:
-        numbers = map(int, asked.drawn.split(","))
-        for row in drawn(Draw._make([*numbers, splitter.lines, splitter.size])):
-            text = row.text()
-            op, line = text.split(",", 3)[1:3]
-            splitter.take(op, row.tick, int(line or 0), text.encode())
-    else:
-        _split_trace(splitter, asked.piece)
-    if asked.off and splitter.first is not None and not splitter.ends_in_cut:
-        splitter.take("C", splitter.tick, 0, f"{splitter.tick},C,,\n".encode())
-    sys.stdout.write(splitter.end())
+    ranges = [_range(text) for text in asked.ranges.split(",")]
+    piece, is_first = (asked.piece[0], asked.piece[1] == 0) if asked.piece else (0, True)
+    names = [f"{part}.{piece}" for part in range(len(ranges))]
+    outs: Sequence[Union[int, str]] = [f"{asked.to}{name}" for name in names]
+    if asked.to[:1].isdigit():
+        outs = [int(fd) for fd in asked.to.split(",")]
+    # (an index is at the bottom: no part has a row of which nothing is known)
+    parts = [_Part(open(out, "wb"), open(f"{asked.index}{name}", "wb") if asked.index else None) for out, name in zip(outs, names)]
+    sizes = asked.banks, asked.banks * asked.regions * asked.lines, asked.seed
+    splitter = _Splitter(sizes, list(zip(ranges, parts)), is_first)
+    _split_trace(splitter, asked.size, asked.piece)
+    splitter.end(asked.off)
+    sys.stdout.write(splitter.told(asked.piece is not None))
 
 
-def _split_trace(splitter: _Splitter, piece: Optional[Sequence[int]]) -> None:
-    shape = splitter.lines, splitter.size, True
+def _draw(words: Sequence[str]) -> None:
+    parser = argparse.ArgumentParser(add_help=False)
+    parser.add_argument("--off", action="store_true")
+    parser.add_argument("--index")
+    parser.add_argument("numbers")
+    parser.add_argument("banks", type=int)
+    parser.add_argument("range")
+    asked = parser.parse_args(words)
+    draw = Draw._make(map(int, asked.numbers.split(",")))
+    part = _Part(open(1, "wb", closefd=False), open(asked.index, "wb") if asked.index else None)
+    splitter = _Splitter((asked.banks, draw.lines, draw.seed), [(_range(asked.range), part)], True)
+    for row in drawn(draw):
+        text = row.text()
+        op, line = text.split(",", 3)[1:3]
+        splitter.take(op, row.tick, int(line or 0), text.encode())
+    splitter.end(asked.off)
+
+
+def _split_trace(splitter: _Splitter, size: int, piece: Optional[Sequence[int]]) -> None:
+    shape = splitter.lines, size, True
     records = _records(piece)
     if not (piece and piece[1]) and ",".join(next(records, [])) + "\n" != HEADER:
         raise PassFault(3, "trace row 0: header")
@@ -257,8 +279,10 @@ def _not_of_the_part() -> PassFault:
 class _Placer:
     """Puts keys in front of what the stream of a part tells."""
 
-    def __init__(self, parts: int, part: int, by_number: bool, index: _Index) -> None:
-        self._parts, self._part, self._by_number, self._index = parts, part, by_number, index
+    def __init__(self, banks: range, by_number: bool, index: _Index) -> None:
+        self._banks, self._by_number, self._index = banks, by_number, index
+        # (what the module tells, the part tells that has its first bank)
+        self._is_first = 0 in banks
         # (whether all is told of the row at which the index stands: what a row decides itself comes last)
         self._is_done = True
 
@@ -274,17 +298,17 @@ class _Placer:
         """A line without a number: what the module or its banks answer where all settle."""
         index = self._index
         if line.startswith(b",shape,"):
-            return b"" if self._part or self._by_number else f"{0:016x}01".encode() + line
+            return f"{0:016x}01".encode() + line if self._is_first and not self._by_number else b""
         while not index.has_ended and (index.kind != SETTLE or self._is_done):
             self._step()
         fields = line.split(b",")
         if index.kind != SETTLE or fields[1] not in (b"bank", b"wear", b"settled"):
             raise _not_of_the_part()
         within = _WEAR if fields[1] == b"wear" else _SETTLED
-        is_own = within == _WEAR or self._part == 0
+        is_own = within == _WEAR or self._is_first
         if fields[1] == b"bank":
             within = _BANK + int(fields[3])
-            is_own = int(fields[3]) % self._parts == self._part
+            is_own = int(fields[3]) in self._banks
         self._is_done = fields[1] == b"settled"
         return f"{index.place:016x}{within:02x}".encode() + line if is_own and not self._by_number else b""
 
@@ -304,7 +328,7 @@ class _Placer:
             self._step()
         del index.pending[number]
         self._is_done = not index.has_ended and number == index.number and index.kind != SETTLE
-        if word == b"cut" and self._part:
+        if word == b"cut" and not self._is_first:
             return b""
         if self._by_number:
             key = f"{row.number:016x}00"
@@ -315,13 +339,13 @@ class _Placer:
 
 def _place(words: Sequence[str]) -> None:
     by_number = words[:1] == ["--by-number"]
-    parts, part, *names = words[by_number:]
+    banks, *names = words[by_number:]
     lines, out = sys.stdin.buffer, sys.stdout.buffer
     if lines.readline() != TOLD.encode() + b"\n":
         raise _not_of_the_part()
-    if part == "0":
+    placer = _Placer(_range(banks), by_number, _Index(names))
+    if 0 in _range(banks):
         out.write(f"{0:018x}{TOLD}\n".encode())
-    placer = _Placer(int(parts), int(part), by_number, _Index(names))
     for line in lines:
         out.write(placer.placed(line))
 
@@ -330,16 +354,17 @@ def _place(words: Sequence[str]) -> None:
 
 
 def _keep(words: Sequence[str]) -> None:
-    parts, part = (int(word) for word in words)
+    (text,) = words
+    banks = _range(text)
     lines, out = sys.stdin.buffer, sys.stdout.buffer
     head = lines.readline()
     if not head:
         raise _not_of_the_part()
-    if part == 0:
+    if 0 in banks:
         out.write(f"{0:018x}".encode() + head)
     for line in lines:
         number, bank, _ = line.split(b",", 2)
-        if int(bank) % parts == part:
+        if int(bank) in banks:
             out.write(f"{int(number):016x}01".encode() + line)
 
 
@@ -380,7 +405,7 @@ def _joined_look(looks: Sequence[bytes], lines: int, senses: int) -> bytes:
     return fields[0][0] + b"," + " ".join(map(str, found)).encode() + b"\n"
 
 
-PASSES: "Dict[str, Callable[[Sequence[str]], None]]" = {"split": _split, "place": _place, "keep": _keep, "merge": _merge}
+PASSES: "Dict[str, Callable[[Sequence[str]], None]]" = {"split": _split, "draw": _draw, "place": _place, "keep": _keep, "merge": _merge}
 
 
 def main(words: Sequence[str]) -> int:

@@ -2,6 +2,7 @@
 import contextlib
 import fcntl
 import os
+import pathlib
 import shutil
 import signal
 import subprocess
@@ -54,6 +55,11 @@ class Run(NamedTuple):
     splitter: List[str]
     passing: List[str]
 
+    @property
+    def draws_inside(self) -> bool:
+        """Whether each stream draws its rows by itself."""
+        return self.asked.draws_itself(self.passing != plain_passes())
+
 
 def _all_of(pipe: Optional[IO[bytes]]) -> bytes:
     return pipe.read() if pipe else b""
@@ -97,17 +103,26 @@ def _starting(what: str) -> Iterator[None]:
 
 class Playing:
     """A part that is being played: its stream and what stands behind it, into a file of the folder. Its trace comes from an open file, or
-    from its pieces, so many, in the folder."""
+    from its pieces, so many, in the folder; or it is drawn, by the stream or in front of it."""
 
     def __init__(self, run: Run, part: int, source: Optional[int] = None, pieces: int = 1) -> None:
         self.part, self._folder = part, run.folder
         self._new = run.folder.forget_new(part)
-        line = [[*run.stream, *run.asked.words()], *_behind(run, part, pieces)]
-        self._is_fed = source is None
-        if self._is_fed:
+        # (that of a drawn part is written while it is read)
+        self._index = self._new.with_name(f"{self._new.name}.index")
+        line = [[*run.stream, *run.asked.words()]]
+        if run.draws_inside:
+            line = [[*run.stream, *run.asked.drawn_words(part)]]
+        elif run.asked.is_drawn:
+            line.insert(0, [*run.passing, *run.asked.drawing(part, self._index if run.asked.kind in PLACED else None)])
+        elif source is None:
             line.insert(0, ["cat", *(str(run.folder.piece("trace", part, piece)) for piece in range(pieces))])
+        self._is_fed = len(line) > 1
+        line += _behind(run, part, [self._index] if run.asked.is_drawn else [run.folder.piece("index", part, it) for it in range(pieces)])
         self._processes: List[_Process] = []
         try:
+            if run.asked.is_drawn and run.asked.kind in PLACED:
+                self._index.touch()
             with _starting(f"part {part}"), open(self._new, "wb") as out:
                 self._start(line, subprocess.DEVNULL if source is None else source, out)
         except BaseException:
@@ -129,12 +144,13 @@ class Playing:
             # (the one that reads may have failed: then the one that writes ends, too)
             return False
         feeding, (stream, *behind) = self._processes[:self._is_fed], self._processes[self._is_fed:]
-        if stream.status not in (0, 1, *_UNREAD):
-            raise self._failure(stream)
-        # (the last one that failed of itself: those before it wrote to nobody)
         failed = [it for it in (*feeding, *behind) if it.status not in (0, -signal.SIGPIPE)]
-        if failed or stream.status in _UNREAD:
-            raise self._failure(failed[-1] if failed else stream)
+        if stream.status not in (0, 1, *_UNREAD):
+            # (a trace that breaks off has no fault of its own)
+            raise self._failure(failed[0] if stream.status == 3 and failed and feeding else stream)
+        # (the last one that failed of itself: those before it wrote to nobody)
+        if failed or stream.status in _UNREAD or any(it.status for it in feeding):
+            raise self._failure((failed or ([stream] if stream.status in _UNREAD else feeding))[-1])
         self._folder.note_done(self.part, stream.status, self._new)
         return True
 
@@ -151,23 +167,23 @@ class Playing:
         for it in self._processes:
             it.end()
         self._new.unlink(missing_ok=True)
+        self._index.unlink(missing_ok=True)
 
 
-def _behind(run: Run, part: int, pieces: int) -> List[List[str]]:
-    """What stands behind the stream of a part."""
-    asked, folder, passing = run.asked, run.folder, run.passing
-    numbers = [str(asked.parts), str(part)]
+def _behind(run: Run, part: int, pieces: Sequence[pathlib.Path]) -> List[List[str]]:
+    """What stands behind the stream of a part, whose index is in these pieces."""
+    asked, folder, passing, banks = run.asked, run.folder, run.passing, run.asked.banks_of(part)
     if asked.kind in KEPT:
-        return [[*passing, "keep", *numbers]]
+        return [[*passing, "keep", banks]]
     if asked.kind not in PLACED:
         return []
-    index = [str(folder.piece("index", part, piece)) for piece in range(pieces)]
+    index = list(map(str, pieces))
     if not asked.by_number:
-        return [[*passing, "place", *numbers, *index]]
+        return [[*passing, "place", banks, *index]]
     sort = shutil.which("sort")
     if sort is None:
         raise PcmError(_BROKEN_OFF, "rows by their numbers need the program sort")
-    return [[*passing, "place", "--by-number", *numbers, *index], [sort, "-S", "64M", "-T", str(folder.path)]]
+    return [[*passing, "place", "--by-number", banks, *index], [sort, "-S", "64M", "-T", str(folder.path)]]
 
 
 @contextlib.contextmanager
@@ -336,7 +352,7 @@ def play_on_the_way(run: Run, source: int, tell: Callable[[], None]) -> Split:
 
 
 class _Batch:
-    """Parts that are played from files, some at a time."""
+    """Parts that are played from files, or drawn, some at a time."""
 
     def __init__(self, run: Run, split: Split, files: contextlib.ExitStack) -> None:
         self._run, self._split, self._files = run, split, files
@@ -375,8 +391,9 @@ class _Batch:
         return self._read + sum(os.lseek(it.fileno(), 0, os.SEEK_CUR) for it in self._sources.values())
 
 
-def play_from_files(run: Run, split: Split, missing: Sequence[int], jobs: int, tell: Callable[[int, int], None]) -> None:
-    """Plays these parts, so many at a time; of those that fail the first is told behind the others."""
+def play_parts(run: Run, split: Split, missing: Sequence[int], jobs: int, tell: Callable[[int, int], None], goes_on: bool) -> None:
+    """Plays these parts, from files or as they are drawn, so many at a time; of those that fail the first is told, behind the others where
+    it goes on."""
     left = list(missing)
     with contextlib.ExitStack() as files:
         batch = _Batch(run, split, files)
@@ -386,6 +403,8 @@ def play_from_files(run: Run, split: Split, missing: Sequence[int], jobs: int, t
                     batch.start(left.pop(0))
                 time.sleep(_TICK)
                 batch.look()
+                if batch.failed and not goes_on:
+                    break
                 tell(batch.done, batch.read)
         finally:
             for one in batch.running.values():

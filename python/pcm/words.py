@@ -285,6 +285,10 @@ def _together(command: Command, given: Dict[str, str]) -> Optional[str]:
     some = [name for name in ("first-bank", "last-bank") if streams and name in given]
     if some and (value["input"] != "drawn" or value["end"] != "drain"):
         return f"--{some[0]} belongs to --input drawn and --end drain alone"
+    if some and int(value["last-bank"]) < int(value["first-bank"]):
+        return f"--first-bank {value['first-bank']} is above --last-bank {value['last-bank']}"
+    if some and int(value["banks"]) <= int(value["first-bank"]):
+        return f"--first-bank {value['first-bank']}: the module has {value['banks']} bank{'s' * (value['banks'] != '1')}, from 0 on"
     if streams and "every" in given and value["print"] != "snapshots":
         return "--every belongs to --print snapshots alone"
     if streams and "tell" in given and value["print"] != "rows":
@@ -331,23 +335,40 @@ RESULTS = "row,op,line,outcome,tick,place,data"
 TOLD = "row,outcome,tick,place,data"
 # A module of so many lines has numbers of at most five digits, a larger one of at most eight.
 FIVE_DIGITS = 100_000
-# An explanation reads no more rows than this: nobody waits for it.
-MOST_ROWS = 5_000_000
+# An explanation looks at no more rows than this: nobody waits for it. Rows before the faulty one are passed over in pieces of so many bytes.
+MOST_ROWS, _PASSED = 5_000_000, 1 << 20
 
 
-def _records(path: str):
-    """The records of a text as the program reads them, each with the number of the line on which it begins."""
+def _records(path: str, at: int = 0, line: int = 1):
+    """The records of a text as the program reads them, from the byte at which this line begins, each with the number of its first line."""
     import csv
 
     csv.field_size_limit(2**31 - 1)
     with open(path, encoding="latin-1", newline="") as text:
-        if text.read(3) != "\xef\xbb\xbf":
-            text.seek(0)
-        reader, begins = csv.reader(text), 1
+        text.seek(at)
+        if at or text.read(3) != "\xef\xbb\xbf":
+            text.seek(at)
+        reader, begins = csv.reader(text), line
         for record in reader:
             if record:
                 yield begins, record
-            begins = reader.line_num + 1
+            begins = reader.line_num + line
+
+
+def _before(path: str, row: int, streams: bool) -> Tuple[int, int, int]:
+    """A byte of a trace at which a line begins, the line's number and that of the next row: at least a row before this one, and not far before
+    it where lines are rows up to there, without quotes."""
+    at, line, number = 0, 1, 0
+    with open(path, "rb") as file:
+        while piece := file.read(_PASSED):
+            piece = piece[:piece.rfind(b"\n") + 1]
+            lines = piece.count(b"\n")
+            rows = lines - sum(piece.count(b",%s," % op.encode()) for op in SETTLING if streams)
+            if not lines or number + rows >= row or piece[0] == 10 or any(it in piece for it in (b'"', b"\r", b"\n\n")):
+                break
+            at, line, number = at + len(piece), line + lines, number + rows
+            file.seek(at)
+    return at, line, number
 
 
 def _shape_of(words: Sequence[str]) -> Tuple[int, int, bool]:
@@ -432,19 +453,21 @@ def fault_kind(record: Sequence[str], before: int, shape: Tuple[int, int, bool],
 
 def _faulty_row(path: str, row: int, kind: str, words: Sequence[str]) -> Optional[str]:
     """Where a faulty row stands in its file, and what is wrong there."""
-    shape, number, last, until = _shape_of(words), 0, (0, 1), (0, 1)
+    shape, last, until = _shape_of(words), (0, 1), (0, 1)
     below: List[str] = []
-    for begins, record in _records(path):
+    at, line, number = _before(path, row, shape[2])
+    for count, (begins, record) in enumerate(_records(path, at, line)):
         if number == 0:
             if row == 0:
                 told = "results stand here, without their trace" if ",".join(record) == RESULTS else f"it is {_shown(','.join(record))}"
                 return f"line {begins}: a trace begins with {','.join(HEADER)}, and {told}"
             number = 1
             continue
-        found = _wrong_field(record, last, shape, number)
+        # (the program took those before it)
+        found = _wrong_field(record, last, shape, number) if number >= row or len(record) != 4 else None
         if kind == "order" and number == row and not found and int(record[0]) < until[0]:
             below.append(f"line {begins}: its tick {int(record[0])} is below the one that the settle until of line {until[1]} reached")
-        if found or number > row or number > MOST_ROWS:
+        if found or number > row or count > MOST_ROWS:
             if not found or number != row or found[0] != kind or below:
                 break
             told = found[1]

@@ -18,7 +18,7 @@ sys.path[:0] = [str(HERE.parent), str(HERE)]
 import leaks  # noqa: E402
 import pcm  # noqa: E402
 from pcm import joining, parting, playing  # noqa: E402
-from pcm.parted import Folder  # noqa: E402
+from pcm.parted import Asked, Folder, Split, part_of  # noqa: E402
 from pcm.words import TOLD  # noqa: E402
 
 HEADER = "tick,op,arg,data\n"
@@ -184,9 +184,8 @@ class Passes(Room):
     def test_they_split_alike(self):
         rows = [f"{at},M,{at},{'..' * 63}0A\r\n{at},W,{at},{DATA}\n{at},S,,\n{at},R,00{at},\n" for at in range(100)]
         trace = (HEADER + "".join(rows) + "200,C,,\n200,Q,,").encode()
-        drawn = ["--drawn", "7,500,50,9,30,5"]
         pieces = [["--piece", "2", str(begin), str(end)] for begin, end in ((0, 17), (17, trace.index(b"50,M")), (trace.index(b"50,M"), len(trace)))]
-        cases = [([], trace), (["--off"], trace), (drawn, b""), (["--off", *drawn], b""), ([], HEADER.encode()), *((it, trace) for it in pieces)]
+        cases = [([], trace), (["--off"], trace), (["--off"], trace[:-8]), ([], HEADER.encode()), *((it, trace) for it in pieces)]
         for words, given in cases:
             found = []
             for at, one in enumerate(self.both):
@@ -194,10 +193,25 @@ class Passes(Room):
                 to = f"{self.room}/{at}/"
                 source = self.file("given", given)
                 with open(source, "rb") as file:
-                    told = called([*one, "split", *words, "--index", f"{to}index.", *NUMBERS, "5", f"{to}trace."], file)
+                    told = called([*one, "split", *words, "--index", f"{to}index.", *NUMBERS, "0-1,2-3,4-5,6-6,7-7", f"{to}trace."], file)
                 self.assertEqual((0, ""), (told[0], told[2]))
                 found.append((told, {it.name: it.read_bytes() for it in (self.room / str(at)).iterdir()}))
             self.assertEqual(*found)
+
+    def test_they_draw_alike_what_is_split(self):
+        index = self.room / "index"
+        for words in ("7,500,50,9,30,5", "7,400,100,0,3,0", "7,300,0,299,0,200", "7,300,30,5,1,1"):
+            rows, percent, cuts, step, hot = words.split(",")[1:]
+            options = ["--seed", "7", "--rows", rows, "--write-percent", percent, "--cuts", cuts, "--step", step, "--hot", hot]
+            trace = called([*pcm.command("gen"), *SHAPE, *options])[1]
+            for off in ([], ["--off"]):
+                ranges = ["0-2,3-3,4-7", f"{self.room}/trace."]
+                called([*self.both[0], "split", *off, "--index", f"{self.room}/index.", *NUMBERS[:3], "7", "64", *ranges], trace)
+                for part, banks in enumerate(("0-2", "3-3", "4-7")):
+                    wanted = (self.room / f"trace.{part}.0").read_bytes(), (self.room / f"index.{part}.0").read_bytes()
+                    for one in self.both:
+                        drawn = called([*one, "draw", *off, "--index", str(index), f"{words},128,64", "8", banks])
+                        self.assertEqual((0, *wanted, ""), (drawn[0], drawn[1], index.read_bytes(), drawn[2]))
 
     def test_they_name_the_fault_that_a_stream_names(self):
         good = f"1,R,3,\n2,W,4,{DATA}\n"
@@ -212,8 +226,12 @@ class Passes(Room):
             self.assertEqual(3, wanted[0], text)
             # (each is slow in Python)
             for one in self.both if number % 3 == 0 else self.both[:1]:
-                found = called([*one, "split", *NUMBERS, "2", f"{self.room}/trace."], text.encode())
+                found = called([*one, "split", *NUMBERS, "0-3,4-7", f"{self.room}/trace."], text.encode())
                 self.assertEqual((3, wanted[2]), (found[0], found[2]), (text, one[-1]))
+            # (rows before the last ones are looked at in another way)
+            tail = "\n" + "9,R,3,\n" * 99 if text.startswith(HEADER) else ""
+            found = called([*self.both[0], "split", *NUMBERS, "0-3,4-7", f"{self.room}/trace."], (text + tail).encode())
+            self.assertEqual((3, wanted[2]), (found[0], found[2]), text)
 
     def test_numbers_beyond_those_of_a_stream(self):
         many = 9 * 2**32 + 5
@@ -226,9 +244,37 @@ class Passes(Room):
         told = f"{TOLD}\n1,read,4,7,00\n,settled,4,,\n2,cut,5,,\n".encode()
         wanted = f"{TOLD}\n{many + 1},read,4,7,00\n,settled,4,,\n{many + 2},cut,5,,\n".encode()
         for one in self.both:
-            status, placed, said = called([*one, "place", "1", "0", str(index)], told)
+            status, placed, said = called([*one, "place", "0-7", str(index)], told)
             self.assertEqual((0, ""), (status, said))
             self.assertEqual((0, wanted, ""), called([*one, "merge", "8", "0", str(self.file("placed", placed))]))
+
+    def splitters_behind(self, rows):
+        """The words that start both splitters as though so many rows had come."""
+        source = f'#define main plain\n#include "{HERE.parent}/pcm/parts.c"\n#undef main\n'
+        source += f"int main(int count, char **words) {{ whole.rows = {rows}u; return plain(count, words); }}\n"
+        program = f"import sys; sys.path.insert(0, {str(HERE.parent)!r})\nfrom pcm import partwise\nbegin = partwise._Splitter.__init__\n"
+        program += f"def behind(self, *words):\n    begin(self, *words)\n    self.rows = {rows}\npartwise._Splitter.__init__ = behind\n"
+        program += "sys.exit(partwise.main(sys.argv[1:]))\n"
+        built = self.room / "behind"
+        compiler = shutil.which("gcc") or shutil.which("clang")
+        if compiler:
+            subprocess.run([compiler, "-O1", "-o", built, self.file("behind.c", source)], check=True)
+        return [*([[str(built)]] if compiler else []), [sys.executable, "-B", str(self.file("behind.py", program))]]
+
+    def test_a_splitter_numbers_rows_beyond_those_of_a_stream(self):
+        many = 9 * 2**32 + 5
+        trace = f"{HEADER}3,R,9,\n4,S,,\n4,R,9,\n5,C,,\n".encode()
+        told = f"{TOLD}\n1,read,4,7,00\n,settled,4,,\n2,read,5,7,00\n3,cut,5,,\n".encode()
+        wanted = f"{TOLD}\n{many + 1},read,4,7,00\n,settled,4,,\n{many + 2},read,5,7,00\n{many + 3},cut,5,,\n".encode()
+        for splitter in self.splitters_behind(many):
+            words = [*splitter, "split", "--index", f"{self.room}/index.", *NUMBERS, "0-7", f"{self.room}/trace."]
+            self.assertEqual((0, f"part 0 3\nrows {many + 3}\n".encode(), ""), called(words, trace))
+            self.assertEqual((3, b"", f"trace row {many + 2}: order\n"), called(words, f"{HEADER}3,R,9,\n1,R,9,\n".encode()))
+            called(words, trace)
+            for one in self.both:
+                placed = called([*one, "place", "0-7", f"{self.room}/index.0.0"], told)
+                self.assertEqual((0, ""), (placed[0], placed[2]))
+                self.assertEqual((0, wanted, ""), called([*one, "merge", "8", "0", str(self.file("placed", placed[1]))]))
 
     def test_looks_are_joined(self):
         looks = ["10 7 0 1 30 5 6", f"{2**64 - 5} 9 0 2 31 5 6"]
@@ -243,7 +289,7 @@ class Passes(Room):
         line = "the rows aren't those of a stream of this part\n"
         for told in ("", "row,outcome\n", f"{TOLD}\n2,read,4,7,00\n", f"{TOLD}\n1\n", f"{TOLD}\nx,read,4,7,\n", f"{TOLD}\n,settled,3,,\n", f"{TOLD}\n1,read,x,7,\n"):
             for one in self.both:
-                found = called([*one, "place", "1", "0", str(index)], told.encode())
+                found = called([*one, "place", "0-7", str(index)], told.encode())
                 self.assertEqual((3, line), (found[0], found[2]), (told, one[-1]))
 
     def test_what_cannot_be_read_or_written(self):
@@ -251,7 +297,7 @@ class Passes(Room):
             with self.subTest(one=one[-1]):
                 missing = str(self.room / "none")
                 self.assertEqual((4, f"{missing}: No such file or directory\n"), called([*one, "merge", "1", "0", missing])[::2])
-                found = called([*one, "split", *NUMBERS, "2", f"{self.room}/none/trace."], HEADER.encode())
+                found = called([*one, "split", *NUMBERS, "0-3,4-7", f"{self.room}/none/trace."], HEADER.encode())
                 self.assertEqual(f"{self.room}/none/trace.0.0: No such file or directory\n", found[2])
                 self.assertIn(found[0], (4, 5))
                 file = self.file("one", f"{0:018x}{'x' * 200000}\n")
@@ -284,6 +330,10 @@ class Words(Room):
             ("--parts lacks its value", "--parts"),
             ("one trace is wanted, and a and b are two", "a", "b"),
             ("a: with --input drawn no trace is read", "a", "--input", "drawn"),
+            ("--rows 9999999999: it may be 1 to 4000000000", "--rows", "9999999999"),
+            ("--rows times --step is 5000000000000: it may be at most 1099511627776", "--input", "drawn", "--rows", "5000000000", "--step", "1000"),
+            ("--banks 5: it may be 1, 2, 4, 8, 16, 32 or 64", "--input", "drawn", "--rows", "5000000000", "--banks", "5"),
+            ("--step stands twice", "--input", "drawn", "--rows=5000000000", "--step", "1", "--step", "2"),
             ("--order up: it may be number or stream", "--order", "up"),
             ("--order belongs to --print rows alone", "--order", "number", "--print", "wear"),
             ("--split wants --folder", "--split"),
@@ -393,6 +443,68 @@ class Folders(Room):
         self.assertEqual(self.wanted, parts(*self.words, PCM=program))
         self.assertEqual(1, self.calls())
 
+    def test_a_part_that_is_killed_in_the_middle(self):
+        begin = f'if mkdir {self.room}/killed 2>/dev/null; then {" ".join(pcm.command("stream"))} "$@" | head -c 3000; kill -9 $$; fi'
+        program = self.standing(begin)
+        for words, wanted in ((self.words, self.wanted), (["--folder", self.room / "drawn", "--parts", 8, *DRAWN], stream(*DRAWN))):
+            shutil.rmtree(self.room / "killed", ignore_errors=True)
+            status, out, said = parts("--jobs", 1, *words, PCM=program)
+            self.assertEqual((70, b"", "parts: part 0 was ended by signal 9\n"), (status, out, said))
+            self.calls()
+            self.assertEqual(wanted, parts(*words, PCM=program))
+            self.assertEqual(1, self.calls())
+
+    def passing(self, name):
+        """A pass that breaks off once in its middle, where it is this one."""
+        passes = f'{sys.executable} -IB {HERE.parent}/pcm/partwise.py "$@"'
+        first = f'if [ "$1" = {name} ] && mkdir {self.room}/killed 2>/dev/null; then {passes} | head -c 2500; kill -9 $$; fi'
+        script = self.file("passing", f"#!/bin/sh\n{first}\nexec {passes}\n")
+        script.chmod(0o755)
+        return mock.patch.object(playing, "plain_passes", lambda: [str(script)])
+
+    def test_a_pass_that_is_killed_in_the_middle(self):
+        folder = self.room / "drawn"
+        for name in ("draw", "place"):
+            program, words = self.standing(), ["--python", "--jobs", 1, "--folder", folder, *DRAWN, "--parts", 5]
+            with self.passing(name):
+                status, out, said = parts(*words, PCM=program)
+            self.assertEqual((70, b"", "parts: part 0 was ended by signal 9\n"), (status, out, said))
+            self.calls()
+            self.assertEqual((0, b"0\n", ""), parts("--folder", folder, "--missing"))
+            self.assertEqual(stream(*DRAWN), parts(*words, PCM=program))
+            self.assertEqual(1, self.calls())
+            self.assertEqual([], [it.name for it in folder.iterdir() if it.name.startswith("new")])
+            shutil.rmtree(folder)
+            (self.room / "killed").rmdir()
+
+    def test_a_splitter_that_is_killed(self):
+        for words in ([*SHAPE, self.trace], self.words):
+            with self.passing("split"):
+                self.refused(70, "the splitter was ended by signal 9", "--python", *words)
+            (self.room / "killed").rmdir()
+        self.assertEqual(self.wanted, parts(*self.words))
+
+    def test_drawn_parts_one_by_one(self):
+        for kind, most in (("rows", 8), ("summary", 3), ("wear", 8), ("energy", 8)):
+            folder, words = self.room / kind, [*DRAWN, "--print", kind, "--parts", most]
+            self.assertEqual((0, b"", ""), parts("--folder", folder, "--split", *words))
+            self.assertEqual((0, b"", ""), parts("--folder", folder, "--part", 1))
+            self.assertEqual(["done.1", "lock.1", "told.1"], sorted(it.name for it in folder.glob("*.1")))
+            self.assertEqual((0, ",".join(str(it) for it in range(most) if it != 1).encode() + b"\n", ""), parts("--folder", folder, "--missing"))
+            self.assertEqual(stream(*DRAWN, "--print", kind), parts("--folder", folder))
+            program = self.standing()
+            os.truncate(folder / "told.2", 5)
+            self.assertEqual(stream(*DRAWN, "--print", kind), parts("--folder", folder, PCM=program))
+            self.assertEqual(1, self.calls())
+
+    def test_more_drawn_rows_than_a_stream_takes(self):
+        words = ["--folder", self.folder, *SHAPE, "--input", "drawn", "--rows", 2**33, "--step", 0, "--print", "summary"]
+        self.assertEqual((0, b"", ""), parts("--split", *words))
+        program = self.standing('case "$*" in *--rows*) exit 2 ;; esac', "head -c 100000 > /dev/null", "echo out of memory >&2", "exit 7")
+        status, out, said = parts("--folder", self.folder, "--part", 3, PCM=program)
+        self.assertEqual((7, b"", "parts: part 3: status 7: out of memory\n"), (status, out, said))
+        self.assertEqual(2**33, Split.drawn(Folder(self.folder).asked()).rows)
+
     def test_a_part_that_is_killed_on_the_way(self):
         program = self.standing(f"if mkdir {self.room}/killed 2>/dev/null; then kill -9 $$; fi")
         status, out, said = parts(*SHAPE, self.trace, PCM=program)
@@ -484,6 +596,17 @@ class Joining(unittest.TestCase):
         out = io.BytesIO()
         joining.summary([io.BytesIO(text), io.BytesIO(text)], out, 5)
         self.assertEqual(f"rows 5\ncut 1\nretired 4\npulses {2**64 - 1}\n".encode(), out.getvalue())
+
+
+class Banks(unittest.TestCase):
+    def test_each_bank_is_in_one_part(self):
+        for banks in (1, 2, 4, 8, 16, 32, 64):
+            for count in range(1, banks + 1):
+                asked = Asked({"banks": str(banks)}, count, False)
+                ranges = [list(map(int, asked.banks_of(part).split("-"))) for part in range(count)]
+                found = [part for part, (first, last) in enumerate(ranges) for _ in range(first, last + 1)]
+                self.assertEqual([part_of(bank, banks, count) for bank in range(banks)], found)
+                self.assertLessEqual(max(map(found.count, found)) - min(map(found.count, found)), 1)
 
 
 class PartStatus(Room):

@@ -20,7 +20,7 @@ stream_of rows =
     with_some (input_of mix (first_of (codes "input") rows)) (λ input.
     with_some (end_of (first_of (codes "end") rows)) (λ end.
     with_some (until_of (first_of (codes "until") rows)) (λ until.
-    with_some (banks_of input end rows) (λ banks.
+    with_some (banks_of input end shape.banks rows) (λ banks.
     Some (record { line = line; shape = shape; seed = seed; wear = wear; print = print; input = input; end = end; until = until; banks = banks })))))))))))
 
 -- the options that `clap` finds in words

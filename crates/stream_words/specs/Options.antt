@@ -1,5 +1,5 @@
 -- What the options of a stream mean, where it isn't what those of a run mean.
-use Rattle.std.specs.{Prelude.{ℕ, ◌*◌, ◌≤◌, nat_le, Bool, true, false, if◌then◌else◌, List, codes, Option, Some, None}, Str.bytes_eq}
+use Rattle.std.specs.{Prelude.{ℕ, ◌*◌, ◌≤◌, nat_le, nat_lt, Bool, ◌&&◌, true, false, if◌then◌else◌, List, codes, Option, Some, None}, Str.bytes_eq}
 use Rattle.clap.specs.Words.{Row, Text, first_of}
 use Rattle.trace_reader.specs.{Number.number_of, Rows.latest_tick}
 use Rattle.trace_gen.specs.{Generated.stream_lines, declared.mix.Mix.Mix}
@@ -135,20 +135,24 @@ abbrev pub bank_of : Option Text → ℕ → Option ℕ
 bank_of None otherwise = Some otherwise
 bank_of (Some text) otherwise = number_of 20 63 text
 
+-- the banks from a first one to a last one, where a module of so many has one of them
+abbrev pub of_module : ℕ → Banks → Option Banks
+of_module banks some = if nat_le some.first some.last && nat_lt some.first banks then Some some else None
+
 -- the banks from a first one to a last one, which are all where none is given
-abbrev pub some_banks_of : List Row → Option Banks
-some_banks_of rows =
+abbrev pub some_banks_of : ℕ → List Row → Option Banks
+some_banks_of banks rows =
     with_some (bank_of (first_of (codes "first-bank") rows) 0) (λ first.
     with_some (bank_of (first_of (codes "last-bank") rows) 63) (λ last.
-    Some (record { first = first; last = last })))
+    of_module banks (record { first = first; last = last })))
 
 -- all banks, where neither is given
 abbrev pub all_banks_of : List Row → Option Banks
 all_banks_of rows =
     without (first_of (codes "first-bank") rows) (without (first_of (codes "last-bank") rows) (Some (record { first = 0; last = 63 })))
 
--- the banks whose rows are served: some are asked for only where rows are drawn, and the banks drain
-abbrev pub banks_of : Input → End → List Row → Option Banks
-banks_of Source end rows = all_banks_of rows
-banks_of (Drawn mix) Drain rows = some_banks_of rows
-banks_of (Drawn mix) Off rows = all_banks_of rows
+-- the banks whose rows are served, of so many: some are asked for only where rows are drawn, and the banks drain
+abbrev pub banks_of : Input → End → ℕ → List Row → Option Banks
+banks_of Source end banks rows = all_banks_of rows
+banks_of (Drawn mix) Drain banks rows = some_banks_of banks rows
+banks_of (Drawn mix) Off banks rows = all_banks_of rows

@@ -10,6 +10,7 @@ use clap::ArgMatches;
 use command_line::Input;
 use command_line::options::{mix_within, value};
 use drawn_parts::Banks;
+use module_shape::Shape;
 use trace_gen::Mix;
 use trace_reader::{LATEST_TICK, number};
 
@@ -216,13 +217,16 @@ fn bank(text: Option<&str>, otherwise: u32) -> Option<u32>
     }
 }
 
-// The banks from a first one to a last one, which are all where none is given.
-fn some_banks(matches: &ArgMatches<'_>) -> Option<Banks>
-    ensures { result ≡ some_banks_of (rows_of (found_of matches.now)) }
+// The banks from a first one to a last one, which are all where none is given: a module of so many has one of them.
+fn some_banks(matches: &ArgMatches<'_>, banks: u32) -> Option<Banks>
+    ensures { result ≡ some_banks_of banks (rows_of (found_of matches.now)) }
 {
     let first = bank(value(matches, "first-bank"), 0)?;
     let last = bank(value(matches, "last-bank"), 63)?;
-    Some(Banks { first, last })
+    if first <= last && first < banks {
+        return Some(Banks { first, last });
+    }
+    None
 }
 
 // All banks, where neither is given.
@@ -239,13 +243,18 @@ fn all_banks(matches: &ArgMatches<'_>) -> Option<Banks>
 }
 
 // The banks whose rows are served: some are asked for only where rows are drawn, and the banks drain.
-pub(crate) fn banks(matches: &ArgMatches<'_>, input: &Input, end: End) -> Option<Banks>
-    ensures { result ≡ banks_of input.now end (rows_of (found_of matches.now)) }
+pub(crate) fn banks(
+    matches: &ArgMatches<'_>,
+    input: &Input,
+    end: End,
+    shape: &Shape,
+) -> Option<Banks>
+    ensures { result ≡ banks_of input.now end shape.now.banks (rows_of (found_of matches.now)) }
 {
     match input {
         Input::Source => all_banks(matches),
         Input::Drawn(_) => match end {
-            End::Drain => some_banks(matches),
+            End::Drain => some_banks(matches, shape.banks()),
             End::Off => all_banks(matches),
         },
     }

@@ -27,7 +27,7 @@ fn stream(matches: &ArgMatches<'_>) -> Option<StreamJob>
     let input = input(matches, mix)?;
     let end = end(matches)?;
     let until = until(matches)?;
-    let banks = banks(matches, &input, end)?;
+    let banks = banks(matches, &input, end, &shape)?;
     Some(StreamJob {
         line,
         shape,
