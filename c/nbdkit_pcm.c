@@ -4,14 +4,12 @@
        nbdkit -U - c/out/nbdkit-pcm-plugin.so pcm=./pcm misses=3 --run 'nbdcopy disk.img $uri'
 
    The export "" is the disk. The export "control" is 4096 bytes of text: read, it tells the disk's clock and what became of its rows; written
-   at its first byte, `cut` cuts the power there, `cut N` in N ticks whatever the disk does then, and `wait N` lets N ticks pass, through each
-   cut that is due in them.
+   at its first byte, `cut` cuts the power there, `cut N` in N ticks whatever the disk does then, `cut N requests` before the N-th request from then on
+   that writes or flushes (0: no longer), and `wait N` lets N ticks pass, through each cut that is due in them.
    docs/USING.md ('Use a module as a disk') says what it is, examples/device/README.md what it keeps and its parameters. */
 #define _GNU_SOURCE /* (so answers come through a pipe: pcm_stream.h) */
 #define NBDKIT_API_VERSION 2
-#include <nbdkit-plugin.h>
-
-#include "pcm_disk.h"
+#include "nbdkit_cuts.h"
 
 #include <sys/stat.h>
 #include <time.h>
@@ -19,7 +17,6 @@
 #define THREAD_MODEL NBDKIT_THREAD_MODEL_SERIALIZE_ALL_REQUESTS
 #define CONTROL_SIZE 4096
 #define HEADER "tick,op,arg,data\n"
-#define SWITCHED 64 /* cuts of the control export that may be to come */
 
 struct connection {
     int is_control;
@@ -27,149 +24,43 @@ struct connection {
     uint64_t power; /* how many power cuts were before it */
 };
 
-static struct pcm_disk disk;
 static struct pcm_disk_shape shape;
 static char *program, *log_name, *args_name, *report_name;
-static const char *cut_ticks = "";  /* cuts that are still to come, by their ticks: a list with commas */
 static FILE *log_file;
 static int log_failed, rides;       /* log_failed: why, a number of errno.h */
-static uint64_t cuts, cut_state, tick_ns, row_ticks;
-static uint64_t due;                /* the tick of the next cut that is listed or drawn, or PCM_DISK_NEVER */
-static uint64_t switched[SWITCHED]; /* those of the control export that are to come, the earliest first */
-static int switches;
+static int logs_all;                /* also reads of banks at rest */
+static int has_ended;               /* the program has, and so does the server */
+static uint64_t tick_ns, row_ticks;
 static struct timespec begun;
-
-/* ---- Parameters: each is a number within its range, or one of some words. */
-
-enum is { IS_NUMBER, IS_POWER, IS_WORD, IS_TEXT };
-static struct parameter {
-    const char *name;
-    enum is is;
-    uint64_t least, most;
-    const char *words;      /* of IS_WORD: what it may be, the first by default, with bars between them */
-    uint64_t value;         /* the number, or which of the words */
-    const char *text;       /* of IS_WORD: the word that was given; of IS_TEXT: the text */
-    int is_given;
-} parameters[] = {
-    /* the module's, in the order of their words in FILE.args */
-    {"banks", IS_POWER, 1, PCM_DISK_BANKS, NULL, 16, NULL, 0},
-    {"regions", IS_POWER, 1, PCM_DISK_REGIONS, NULL, 16, NULL, 0},
-    {"lines", IS_POWER, 4, PCM_DISK_LINES, NULL, 256, NULL, 0},
-    {"line", IS_POWER, 64, 128, NULL, 128, NULL, 0},
-    {"spares", IS_NUMBER, 0, 1024, NULL, 8, NULL, 0},
-    {"write-queue", IS_NUMBER, 1, 256, NULL, 32, NULL, 0},
-    {"read-queue", IS_NUMBER, 1, 256, NULL, 32, NULL, 0},
-    {"read-ticks", IS_NUMBER, 1, 255, NULL, 5, NULL, 0},
-    {"iter-ticks", IS_NUMBER, 1, 255, NULL, 10, NULL, 0},
-    {"seed", IS_NUMBER, 0, UINT64_MAX, NULL, 0, NULL, 0},
-    {"psi", IS_NUMBER, 1, 65535, NULL, 100, NULL, 0},
-    {"lo", IS_NUMBER, 1, 4000000000, NULL, 100000000, NULL, 0},
-    {"hi", IS_NUMBER, 1, 4000000000, NULL, 100000000, NULL, 0},
-    {"misses", IS_NUMBER, 0, 7, NULL, 0, NULL, 0},
-    {"policy", IS_WORD, 0, 0, "pause|plain|cancel", 0, "pause", 0},
-    {"registers", IS_WORD, 0, 0, "guarded|array", 0, "guarded", 0},
-    {"end", IS_WORD, 0, 0, "drain|off", 0, "drain", 0},
-    /* the disk's */
-    {"atomic", IS_WORD, 0, 0, "0|512|4096", 0, "0", 0},
-    {"straight", IS_WORD, 0, 0, "false|true", 0, "false", 0},
-    {"row-ticks", IS_NUMBER, 0, 1000000, NULL, 1, NULL, 0},
-    {"tick-ns", IS_NUMBER, 0, 1000000000, NULL, 0, NULL, 0},
-    {"cuts", IS_NUMBER, 0, UINT64_C(1) << 38, NULL, 0, NULL, 0},
-    {"cut-seed", IS_NUMBER, 0, UINT64_MAX, NULL, 1, NULL, 0},
-    {"cut-ticks", IS_TEXT, 0, 0, NULL, 0, "", 0},
-    {"on-cut", IS_WORD, 0, 0, "drop|ride", 0, "drop", 0},
-    {"pcm", IS_TEXT, 0, 0, NULL, 0, NULL, 0},
-    {"log", IS_TEXT, 0, 0, NULL, 0, NULL, 0},
-    {"report", IS_TEXT, 0, 0, NULL, 0, NULL, 0},
-};
-enum { PARAMETERS = sizeof parameters / sizeof *parameters, MODULES_OWN = 16, FIRST_OPTION = 10, OPTIONS = 7 };
-
-static struct parameter *parameter(const char *name)
-{
-    for (int i = 0; i < PARAMETERS; i++)
-        if (strcmp(parameters[i].name, name) == 0)
-            return &parameters[i];
-    return NULL;
-}
-
-/* Whether a text is a number: digits alone, not beyond the greatest one. */
-static int is_number(const char *text, uint64_t *number)
-{
-    const char *at = text;
-    for (*number = 0; *at >= '0' && *at <= '9'; at++) {
-        uint64_t digit = (uint64_t)(*at - '0');
-        if (*number > (UINT64_MAX - digit) / 10)
-            return 0;
-        *number = 10 * *number + digit;
-    }
-    return at > text && *at == 0;
-}
-
-static int set_number(struct parameter *it, const char *value)
-{
-    if (is_number(value, &it->value) && it->value >= it->least && it->value <= it->most && (it->is == IS_NUMBER || (it->value & (it->value - 1)) == 0))
-        return 0;
-    nbdkit_error("%s=%s: it is a %s from %llu to %llu", it->name, value, it->is == IS_POWER ? "power of two" : "number", (unsigned long long)it->least,
-                 (unsigned long long)it->most);
-    return -1;
-}
-
-static int set_word(struct parameter *it, const char *value)
-{
-    size_t size = strchr(value, '|') != NULL ? 0 : strlen(value);
-    it->value = 0;
-    for (const char *at = it->words; at != NULL; at = strchr(at, '|'), it->value++) {
-        at += *at == '|';
-        if (size > 0 && strncmp(at, value, size) == 0 && (at[size] == '|' || at[size] == 0)) {
-            it->text = value; /* (nbdkit keeps it) */
-            return 0;
-        }
-    }
-    nbdkit_error("%s=%s: it is one of %s", it->name, value, it->words);
-    return -1;
-}
-
-static int plugin_config(const char *key, const char *value)
-{
-    struct parameter *it = parameter(key);
-    if (it == NULL) {
-        nbdkit_error("there is no parameter %s; nbdkit --help PLUGIN names them", key);
-        return -1;
-    }
-    if (it->is_given) {
-        nbdkit_error("%s stands twice", key);
-        return -1;
-    }
-    it->is_given = 1;
-    if (it->is == IS_WORD)
-        return set_word(it, value);
-    if (it->is != IS_TEXT)
-        return set_number(it, value);
-    it->text = value;
-    return 0;
-}
-
-/* The ticks of cuts rise. */
-static int check_cut_ticks(const char *text)
-{
-    uint64_t before = 0, tick;
-    for (const char *at = text; *at != 0;) {
-        char one[21] = "";
-        size_t size = strcspn(at, ",");
-        memcpy(one, at, size < 20 ? size : 20);
-        if (size > 20 || !is_number(one, &tick) || tick <= before || tick > PCM_LAST_TICK || (at[size] == ',' && at[size + 1] == 0)) {
-            nbdkit_error("cut-ticks=%s: it is a list of rising ticks from 1 to 2^40, with commas between them", text);
-            return -1;
-        }
-        before = tick;
-        at += size + (at[size] == ',');
-    }
-    return 0;
-}
 
 static uint64_t value_of(const char *name)
 {
     return parameter(name)->value;
+}
+
+/* By the size: the regions and lines of a module that has so many bytes at least, as few as are a power of two. */
+static int pick_lines(void)
+{
+    struct parameter *regions = parameter("regions"), *lines = parameter("lines"), *size = parameter("size");
+    uint64_t of_each = value_of("banks") * value_of("line"), all = 4;
+    if (!size->is_given)
+        return 0;
+    if (regions->is_given && lines->is_given) {
+        nbdkit_error("size says how many regions and lines there are: give at most one of these beside it");
+        return -1;
+    }
+    while (all * of_each < size->value)
+        all *= 2;
+    if (lines->is_given) {
+        regions->value = all > lines->value ? all / lines->value : 1;
+    } else {
+        regions->value = regions->is_given || all >= 4 * regions->value ? regions->value : all / 4;
+        lines->value = all > 4 * regions->value ? all / regions->value : 4;
+    }
+    if (regions->value <= regions->most && lines->value <= lines->most)
+        return 0;
+    nbdkit_error("size=%llu: no such module has so many bytes", (unsigned long long)size->value);
+    return -1;
 }
 
 /* What can't be said of one parameter alone. */
@@ -186,6 +77,14 @@ static int check_together(void)
     }
     if (shape.atomic != 0 && bytes < 2 * (uint64_t)shape.atomic + 4) {
         nbdkit_error("atomic=%lu: a module of %llu bytes has no room for two such sectors", (unsigned long)shape.atomic, (unsigned long long)bytes);
+        return -1;
+    }
+    if (cache.most != 0 && rides) {
+        nbdkit_error("cache: clients would notice that a cut takes what they didn't flush: not with on-cut=ride");
+        return -1;
+    }
+    if (parameter("log-rows")->is_given && parameter("log")->text == NULL) {
+        nbdkit_error("log-rows says how many rows of a log are played: give log");
         return -1;
     }
     if (cuts != 0 && parameter("cut-ticks")->is_given) {
@@ -224,68 +123,12 @@ static int check_files(void)
     return 0;
 }
 
-/* ---- Power cuts */
-
-/* The disk's next cut: the earliest of the switch's and the one that is listed or drawn. */
-static void set_cut(void)
-{
-    disk.cut_at = switches > 0 && switched[0] < due ? switched[0] : due;
-}
-
-/* The next cut beside the switch's: the next tick of the list, or one drawn by a word of SplitMix64. (At most one comes in a request; a tick of
-   the list that has passed meanwhile comes in the next one.) */
-static void next_cut(void)
-{
-    due = PCM_DISK_NEVER;
-    if (*cut_ticks != 0) {
-        due = strtoull(cut_ticks, NULL, 10);
-        cut_ticks += strcspn(cut_ticks, ",");
-        cut_ticks += *cut_ticks == ',';
-    }
-    if (cuts != 0) {
-        uint64_t word = cut_state += UINT64_C(0x9e3779b97f4a7c15);
-        word = (word ^ word >> 30) * UINT64_C(0xbf58476d1ce4e5b9);
-        word = (word ^ word >> 27) * UINT64_C(0x94d049bb133111eb);
-        word ^= word >> 31;
-        due = disk.now + 1 + word % (2 * cuts);
-    }
-    set_cut();
-}
-
-/* The next cut, where there were so many before: the disk's cut has come, which was the switch's or the other one. */
-static void note_cut(uint64_t before)
-{
-    if (disk.count[PCM_CUT] == before)
-        return;
-    if (switches == 0 || switched[0] >= due) {
-        next_cut();
-        return;
-    }
-    switches--;
-    memmove(switched, switched + 1, (size_t)switches * sizeof *switched);
-    set_cut();
-}
-
-/* The switch's cut at a tick; whether there was room for it. */
-static int add_cut(uint64_t tick)
-{
-    int at = switches;
-    if (switches == SWITCHED)
-        return 0;
-    for (; at > 0 && switched[at - 1] > tick; at--)
-        switched[at] = switched[at - 1];
-    switched[at] = tick;
-    switches++;
-    set_cut();
-    return 1;
-}
-
 /* ---- The log: a trace of the disk's rows. Beside it, FILE.args has the words of its module in one line, and the disk's own in a second. */
 
 static void keep_row(void *context, char op, const char *row, size_t size)
 {
     (void)context;
-    if (strchr("RWMC", op) != NULL && fwrite(row, 1, size, log_file) != size && log_failed == 0)
+    if (strchr("RWMC", op) != NULL && (!disk.is_idle || logs_all) && fwrite(row, 1, size, log_file) != size && log_failed == 0)
         log_failed = errno;
 }
 
@@ -354,18 +197,19 @@ static int write_args(void)
     return 0;
 }
 
-/* Opens the log, for this server alone. */
+/* Opens the log, for this server alone; or, where its first rows are played, as one that stays as it is. */
 static int open_log(void)
 {
-    struct flock whole = {.l_type = F_WRLCK, .l_whence = SEEK_SET};
+    int is_kept = parameter("log-rows")->is_given;
+    struct flock whole = {.l_type = is_kept ? F_RDLCK : F_WRLCK, .l_whence = SEEK_SET};
     struct stat is;
-    int file = open(log_name, O_RDWR | O_CREAT | O_APPEND | O_CLOEXEC | O_NONBLOCK, 0666); /* (a pipe isn't waited for) */
+    int file = open(log_name, (is_kept ? O_RDONLY : O_RDWR | O_CREAT | O_APPEND) | O_CLOEXEC | O_NONBLOCK, 0666); /* (a pipe isn't waited for) */
     if (file >= 0 && fstat(file, &is) == 0 && !S_ISREG(is.st_mode)) {
         nbdkit_error("%s is no log: it isn't a regular file", log_name);
         close(file);
         return -1;
     }
-    if (file < 0 || (log_file = fdopen(file, "a+")) == NULL || fseeko(log_file, 0, SEEK_SET) != 0) {
+    if (file < 0 || (log_file = fdopen(file, is_kept ? "r" : "a+")) == NULL || fseeko(log_file, 0, SEEK_SET) != 0) {
         nbdkit_error("%s: %m", log_name);
         return -1;
     }
@@ -401,14 +245,17 @@ static int look_at(const char *row)
 /* Goes over the rows of the log, and puts where they end. One without its end was never answered (its server was ended while it wrote). */
 static int each_row(int (*act)(const char *), off_t *end)
 {
+    const struct parameter *most = parameter("log-rows");
     char row[PCM_MOST_ROW];
     unsigned long long number = 0;
+    size_t size = 0;
     off_t at = 0;
-    for (; fgets(row, sizeof row, log_file) != NULL; at += (off_t)strlen(row), number++) {
-        int is_whole = strchr(row, '\n') != NULL, fault = 0;
+    for (; (!most->is_given || number <= most->value) && fgets(row, sizeof row, log_file) != NULL; at += (off_t)size, number++) {
+        int fault = 0;
+        size = strlen(row);
         if (number == 0 && check_header(row) != 0)
             return -1;
-        if (!is_whole && strlen(row) < sizeof row - 1)
+        if ((size == 0 || row[size - 1] != '\n') && size < sizeof row - 1)
             break;
         if (number > 0)
             fault = act(row);
@@ -418,6 +265,10 @@ static int each_row(int (*act)(const char *), off_t *end)
         }
     }
     *end = at;
+    if (most->is_given && number <= most->value) {
+        nbdkit_error("log-rows=%llu: %s has %llu rows", (unsigned long long)most->value, log_name, number == 0 ? 0 : number - 1);
+        return -1;
+    }
     if (ferror(log_file)) {
         nbdkit_error("%s: %m", log_name);
         return -1;
@@ -430,12 +281,26 @@ static int replay(const char *row)
     return pcm_disk_replay(&disk, row);
 }
 
-/* Plays the rows of the log. What is behind the last one's end is taken away. */
+/* The disk as the rows of the log left it. */
+static int resume(void)
+{
+    int fault = pcm_disk_resume(&disk);
+    if (fault != 0)
+        nbdkit_error("%s: the disk that it leaves can't be read: %s", log_name, strerror(fault));
+    return fault;
+}
+
+/* Plays the rows of the log. What is behind the last one's end is taken away; but where its first rows are played alone, it stays as it is. */
 static int play_log(void)
 {
     off_t at;
     if (each_row(replay, &at) != 0)
         return -1;
+    if (parameter("log-rows")->is_given) {
+        fclose(log_file);
+        log_file = NULL;
+        return resume();
+    }
     if (ftruncate(fileno(log_file), at) != 0 || fseeko(log_file, 0, SEEK_END) != 0) {
         nbdkit_error("%s: %m", log_name);
         return -1;
@@ -446,12 +311,8 @@ static int play_log(void)
             return -1;
         if (fputs(HEADER, log_file) < 0)
             log_failed = errno;
-    } else {
-        int fault = pcm_disk_resume(&disk);
-        if (fault != 0) {
-            nbdkit_error("%s: the disk that it leaves can't be read: %s", log_name, strerror(fault));
-            return -1;
-        }
+    } else if (resume() != 0) {
+        return -1;
     }
     return flush_log(0) == 0 ? 0 : -1;
 }
@@ -460,13 +321,18 @@ static int play_log(void)
 
 static int plugin_config_complete(void)
 {
+    if (pick_lines() != 0)
+        return -1;
     struct pcm_disk_shape given = {(uint32_t)value_of("banks"), (uint32_t)value_of("regions"), (uint32_t)value_of("lines"),
                                    (uint32_t)value_of("line"), (uint32_t)value_of("spares"), (uint32_t)value_of("write-queue"),
                                    (uint32_t)value_of("read-queue"), (uint32_t)value_of("read-ticks"), (uint32_t)value_of("iter-ticks"),
                                    (uint32_t)strtoul(parameter("atomic")->text, NULL, 10), (uint32_t)value_of("straight"), value_of("seed")};
     shape = given;
     cuts = value_of("cuts");
-    cut_state = value_of("cut-seed");
+    cut_state = request_state = value_of("cut-seed");
+    cut_requests = value_of("cut-requests");
+    cache.most = (uint32_t)value_of("cache");
+    logs_all = (int)value_of("log-reads");
     cut_ticks = parameter("cut-ticks")->text;
     tick_ns = value_of("tick-ns");
     row_ticks = value_of("row-ticks");
@@ -526,6 +392,16 @@ static int plugin_after_fork(void)
         return -1;
     disk.rides = rides;
     disk.row_ticks = (uint32_t)row_ticks;
+    disk.endures = value_of("lo");
+    disk.order = value_of("tear") != 0 ? pcm_disk__mixed(value_of("cut-seed")) | 1 : 0;
+    requests_due[0] = cut_requests != 0 ? 1 + drawn(&request_state, 2 * cut_requests) : 0;
+    if (pcm_cache_open(&cache, &disk, (uint32_t)value_of("cache"), value_of("cut-seed")) != 0) {
+        nbdkit_error("cache=%llu: there is no memory for it", (unsigned long long)value_of("cache"));
+        return -1;
+    }
+    if (parameter("size")->is_given)
+        fprintf(stderr, "size: regions=%lu lines=%lu, so %llu bytes\n", (unsigned long)shape.regions, (unsigned long)shape.lines,
+                (unsigned long long)pcm_disk_size(&disk));
     do /* (those of an earlier life are over) */
         next_cut();
     while (due <= disk.now && cuts == 0);
@@ -542,6 +418,16 @@ static int put_counts(char *to, size_t size)
     for (int i = 0; i < PCM_SETTLED; i++)
         at += snprintf(to + at, size - (size_t)at, "%s %llu\n", words[i], (unsigned long long)disk.count[i]);
     return at;
+}
+
+/* The program has ended, or was killed: nothing can be read any more, and the server ends. */
+static void end_at_once(void)
+{
+    if (!has_ended)
+        nbdkit_error("the program %s has ended (it was killed, or had a fault, which it told then): so does the server. A server on its log goes on from there",
+                     program);
+    has_ended = 1;
+    nbdkit_shutdown();
 }
 
 /* Behind the last connection. */
@@ -564,10 +450,13 @@ static void plugin_cleanup(void)
 
 static void plugin_unload(void)
 {
+    pcm_cache_close(&cache);
     free(program);
     free(log_name);
     free(args_name);
     free(report_name);
+    if (has_ended) /* (nbdkit's own status is 0 behind a shutdown) */
+        exit(EXIT_FAILURE);
 }
 
 /* ---- Connections */
@@ -612,16 +501,23 @@ static int plugin_block_size(void *handle, uint32_t *minimum, uint32_t *preferre
 {
     (void)handle;
     *minimum = 1;
-    *preferred = PCM_DISK_SECTOR;
+    *preferred = shape.atomic > 4096 ? shape.atomic : 4096;
     *maximum = 0xffffffff;
     return 0;
 }
 
-/* Writes are durable once they are answered, for every connection. */
+/* What one connection wrote and flushed all others read. */
 static int yes(void *handle)
 {
     (void)handle;
     return 1;
+}
+
+/* A worn disk only reads. */
+static int plugin_can_write(void *handle)
+{
+    const struct connection *it = handle;
+    return it->is_control || !disk.worn;
 }
 
 static int plugin_can_fua(void *handle)
@@ -656,23 +552,50 @@ static int failed(struct connection *it, int fault, const char *what, uint32_t s
     if (fault != ESHUTDOWN || !it->is_told)
         nbdkit_error("%s of %lu bytes at %llu: %s", what, (unsigned long)size, (unsigned long long)offset, why);
     it->is_told |= fault == ESHUTDOWN;
+    if (fault == EPIPE)
+        end_at_once();
     nbdkit_set_error(fault == EROFS || fault == EINVAL ? fault : EIO);
     return -1;
 }
 
-/* A request of a connection to the disk: a write where `from` is there, else a read. */
-static int transfer(struct connection *it, void *to, const void *from, uint32_t size, uint64_t offset, int is_synced)
+/* A request of a connection to the disk. */
+struct request {
+    enum { IS_READ, IS_WRITE, IS_FLUSH } is;
+    void *to;           /* of a read */
+    const void *from;   /* of a write */
+    uint32_t size;
+    uint64_t offset;
+    int is_synced;      /* of a write: whether it is flushed by itself */
+};
+
+static int act(const struct request *of)
 {
+    return of->is == IS_READ    ? pcm_cache_read(&cache, of->to, of->size, of->offset)
+           : of->is == IS_WRITE ? pcm_cache_write(&cache, of->from, of->size, of->offset, of->is_synced)
+                                : pcm_cache_flush(&cache);
+}
+
+/* Whether the power was cut since the connection came. */
+static int is_off(const struct connection *it)
+{
+    return it->power != disk.count[PCM_CUT] && !rides;
+}
+
+static int serve(struct connection *it, const struct request *of)
+{
+    static const char *const words[] = {"read", "write", "flush"};
+    int fault = log_failed ? EIO : is_off(it) ? ESHUTDOWN : of->is == IS_READ ? 0 : cut_before_it();
     uint64_t before = disk.count[PCM_CUT];
-    int fault = log_failed ? EIO : it->power != before && !rides ? ESHUTDOWN : real_time(0);
     if (fault == 0)
-        fault = from != NULL ? pcm_disk_write(&disk, from, size, offset) : pcm_disk_read(&disk, to, size, offset);
+        fault = is_off(it) ? ESHUTDOWN : real_time(0);
+    if (fault == 0)
+        fault = act(of);
     if (fault == 0)
         fault = real_time(1);
     note_cut(before);
-    if (flush_log(is_synced) != 0 && fault == 0)
+    if (flush_log(of->is == IS_FLUSH || of->is_synced) != 0 && fault == 0)
         fault = EIO;
-    return fault == 0 ? 0 : failed(it, fault, from != NULL ? "write" : "read", size, offset);
+    return fault == 0 ? 0 : failed(it, fault, words[of->is], of->size, of->offset);
 }
 
 static int plugin_pread(void *handle, void *to, uint32_t size, uint64_t offset, uint32_t flags)
@@ -686,7 +609,8 @@ static int plugin_pread(void *handle, void *to, uint32_t size, uint64_t offset, 
         memcpy(to, text + offset, size);
         return 0;
     }
-    return transfer(it, to, NULL, size, offset, 0);
+    const struct request read = {IS_READ, to, NULL, size, offset, 0};
+    return serve(it, &read);
 }
 
 /* Time passes up to a tick, through each cut that is due by then. */
@@ -696,6 +620,8 @@ static int wait_until(uint64_t tick)
     while (fault == 0 && is_cut) {
         uint64_t before = disk.count[PCM_CUT];
         is_cut = disk.cut_at <= tick;
+        if (is_cut)
+            scatter();
         fault = pcm_disk_go_on(&disk, !is_cut ? tick : disk.cut_at < disk.now ? disk.now : disk.cut_at);
         if (fault == ESHUTDOWN) /* (the connections to the disk notice it) */
             fault = 0;
@@ -704,26 +630,50 @@ static int wait_until(uint64_t tick)
     return fault;
 }
 
+/* A command: its word, and its number, where it has one. */
+struct command {
+    enum { IS_NONE, IS_CUT, IS_CUT_OF_REQUESTS, IS_WAIT } is;
+    uint64_t number;
+};
+
+static struct command read_command(const char *from, uint32_t size)
+{
+    char text[40] = "", *end;
+    struct command it = {IS_NONE, 0};
+    memcpy(text, from, size < sizeof text ? size : sizeof text - 1);
+    text[strcspn(text, "\n")] = 0;
+    end = strstr(text, " requests");
+    int is_cut = strncmp(text, "cut ", 4) == 0;
+    if (is_cut && end != NULL && strcmp(end, " requests") == 0) {
+        *end = 0;
+        it.is = is_number(text + 4, &it.number) ? IS_CUT_OF_REQUESTS : IS_NONE;
+    } else if (strcmp(text, "cut") == 0 || (is_cut && is_number(text + 4, &it.number))) {
+        it.is = IS_CUT;
+    } else if (strncmp(text, "wait ", 5) == 0 && is_number(text + 5, &it.number)) {
+        it.is = IS_WAIT;
+    }
+    return it;
+}
+
 /* A word for the power switch or the clock. */
 static int command(const char *from, uint32_t size, uint64_t offset)
 {
-    char text[40] = "";
-    uint64_t ticks = 0;
-    int is_cut, is_wait, fault = 0;
-    memcpy(text, from, size < sizeof text ? size : sizeof text - 1);
-    text[strcspn(text, "\n")] = 0;
-    is_cut = strcmp(text, "cut") == 0 || (strncmp(text, "cut ", 4) == 0 && is_number(text + 4, &ticks));
-    is_wait = strncmp(text, "wait ", 5) == 0 && is_number(text + 5, &ticks);
-    if (offset != 0 || (!is_cut && !is_wait) || ticks > PCM_LAST_TICK - disk.now) {
-        nbdkit_error("control takes 'cut', 'cut N' and 'wait N', N ticks up to 2^40 in all");
+    const struct command it = read_command(from, size);
+    int fault = 0;
+    if (offset != 0 || it.is == IS_NONE || it.number > PCM_LAST_TICK - (it.is == IS_CUT_OF_REQUESTS ? 0 : disk.now)) {
+        nbdkit_error("control takes 'cut', 'cut N', 'cut N requests' and 'wait N', N ticks up to 2^40 in all");
         return EINVAL;
     }
-    if (is_cut && !add_cut(disk.now + ticks)) {
+    if (it.is == IS_CUT_OF_REQUESTS) {
+        requests_due[1] = it.number;
+        return 0;
+    }
+    if (it.is == IS_CUT && !add_cut(disk.now + it.number)) {
         nbdkit_error("of cuts that were asked for at most %d may be to come", SWITCHED);
         return EINVAL;
     }
-    if (is_wait || ticks == 0)
-        fault = wait_until(disk.now + (is_wait ? ticks : 0));
+    if (it.is == IS_WAIT || it.number == 0)
+        fault = wait_until(disk.now + it.number);
     if (flush_log(0) != 0)
         fault = EIO;
     return fault;
@@ -732,34 +682,39 @@ static int command(const char *from, uint32_t size, uint64_t offset)
 static int plugin_pwrite(void *handle, const void *from, uint32_t size, uint64_t offset, uint32_t flags)
 {
     struct connection *it = handle;
+    const struct request write = {IS_WRITE, NULL, from, size, offset, (flags & NBDKIT_FLAG_FUA) != 0};
     if (!it->is_control)
-        return transfer(it, NULL, from, size, offset, (flags & NBDKIT_FLAG_FUA) != 0);
+        return serve(it, &write);
     int fault = command(from, size, offset);
     return fault == 0 ? 0 : fault == EINVAL ? (nbdkit_set_error(EINVAL), -1) : failed(it, fault, "command", size, offset);
 }
 
-/* The module has nothing to flush; its log has. */
+/* The module has nothing to flush; its log has, and the cache. */
 static int plugin_flush(void *handle, uint32_t flags)
 {
-    (void)handle;
+    struct connection *it = handle;
+    const struct request flush = {IS_FLUSH, NULL, NULL, 0, 0, 0};
     (void)flags;
-    if (flush_log(1) == 0)
-        return 0;
-    nbdkit_set_error(EIO);
-    return -1;
+    return it->is_control ? 0 : serve(it, &flush);
 }
 
 #define HELP \
     "pcm=PROGRAM        the program `pcm` (./pcm, or pcm on the search path)\n" \
     "log=FILE           a trace of all rows; where it has some, the disk is what they leave. FILE.args has its options\n" \
+    "log-reads=all      also reads of banks at rest, which change nothing (needed: not these)\n" \
+    "log-rows=N         the disk as the first N rows of the log left it; FILE stays as it is\n" \
     "report=FILE        counts of all outcomes, written at the end\n" \
     "banks=A regions=B lines=N line=64|128 spares=S seed=X write-queue=W read-queue=R psi=N policy=pause|plain|cancel\n" \
     "registers=guarded|array read-ticks=T iter-ticks=T lo=N hi=N misses=N end=drain|off\n" \
     "                   the module's options, as of pcm stream\n" \
-    "atomic=0|512|4096  bytes of a sector that no power cut tears\n" \
+    "size=N             regions and lines so that it has N bytes at least (each number may end in K, M or G)\n" \
+    "atomic=0|512|4096|8192|16384  bytes of a sector that no power cut tears\n" \
     "cuts=N cut-seed=X  a power cut each N ticks or so: drawn from 1 to 2N\n" \
     "cut-ticks=T,T,..   power cuts at these ticks\n" \
+    "cut-requests=N     a power cut between requests, before each N-th or so that writes or flushes: drawn from 1 to 2N\n" \
     "on-cut=drop|ride   connections that there are get EIO from then on, or notice nothing\n" \
+    "tear=prefix|any    a write that a cut ends is there up to some line (sector), or any of its lines (sectors) are\n" \
+    "cache=N            a volatile cache of N sectors before it: a cut takes any of what wasn't flushed. What is kept otherwise isn't then\n" \
     "row-ticks=N        ticks from a row to the next\n" \
     "straight=true      the disk's lines are the module's in their order\n" \
     "tick-ns=N          real time: a tick lasts so many nanoseconds"
@@ -781,7 +736,7 @@ static struct nbdkit_plugin plugin = {
     .list_exports = plugin_list_exports,
     .get_size = plugin_get_size,
     .block_size = plugin_block_size,
-    .can_write = yes,
+    .can_write = plugin_can_write,
     .can_flush = yes,
     .can_fua = plugin_can_fua,
     .can_multi_conn = yes,

@@ -14,7 +14,8 @@
    What it keeps (tested, not proved). A write that answered 0 outlives every power cut: each of its lines is accepted by the module, and by the theorem
    about the module a read gives a line's newest accepted write, however a cut tore the cells (MODEL.md, 'A power cut'). A write that a cut
    ends is written up to some line of the module, and not from there on; no line is half written. With `atomic` the same holds of
-   sectors of 512 or 4,096 bytes. There is no cache to flush, and writes of one disk are made in their order.
+   sectors of 512 to 16,384 bytes. There is no cache to flush, and writes of one disk are made in their order. With `order` the lines (sectors) of
+   one write are made in a drawn order, so that a cut leaves any of them: nothing more is kept then than of each line (sector).
 
    Time. The disk has one clock, in the module's ticks, and one request at a time: a request begins where the one before it ended, and each of
    its lines is a row, `row_ticks` behind the last. A write ends when all its lines are accepted; where too many lines wait to be stored,
@@ -30,7 +31,8 @@
    behind a cut or pcm_disk_resume, which asks the banks: writes answer EROFS, and all that was accepted is read as before.
 
    Logs. disk.pcm.log and disk.pcm.context (pcm_stream.h) are the caller's behind pcm_disk_open: the rows that are handed to it, R, W, M and C
-   alone, behind a header, are a trace of the disk's life, which pcm_disk_replay plays again. */
+   alone, behind a header, are a trace of the disk's life, which pcm_disk_replay plays again. Reads of banks at rest (`is_idle`) may be left out:
+   without them each write is accepted, stored and torn as it was. (Senses are fewer.) */
 #ifndef PCM_DISK_H
 #define PCM_DISK_H
 
@@ -46,7 +48,7 @@ struct pcm_disk_shape {
     uint32_t lines;             /* of a region: a power of two from 4 on; all together at most 2^26 (`pcm run`: 2^16) */
     uint32_t line;              /* bytes: 64 or 128 */
     uint32_t spares, write_queue, read_queue, read_ticks, iter_ticks;
-    uint32_t atomic;            /* bytes of a sector that no cut tears: 512 or 4096; 0: lines are what isn't torn */
+    uint32_t atomic;            /* bytes of a sector that no cut tears: 512, 4096, 8192 or 16384; 0: lines are what isn't torn */
     uint32_t straight;          /* not 0: the disk's lines are the module's in their order, of which neighbours often share a bank */
     uint64_t seed;
 };
@@ -60,7 +62,7 @@ static const struct pcm_disk_shape pcm_disk_default = {16, 16, 256, 128, 8, 32, 
 #define PCM_DISK_LINES (UINT32_C(1) << 26)
 #define PCM_DISK_QUEUE 256
 /* The largest sector, and how many entries of the map are looked up at once. */
-#define PCM_DISK_SECTOR 4096
+#define PCM_DISK_SECTOR 16384
 #define PCM_DISK_ENTRIES 32
 
 /* A write that waits: its row's number, and its line of the module. */
@@ -73,18 +75,22 @@ struct pcm_disk {
     uint64_t now;            /* the disk's clock: no row has a later tick, and nothing is known of what comes behind it */
     uint64_t cut_at;         /* the caller's: the tick of the next power cut, or PCM_DISK_NEVER. It comes whatever the disk does then */
     int rides;               /* the caller's: whether requests go on behind a cut (reads that it lost are asked again) */
+    uint64_t order;          /* the caller's: not 0: the lines (sectors) of a write are made in an order that this draws, and that steps it */
+    uint64_t endures;        /* the caller's: how many changes each cell endures at least (--lo); 0 where that isn't known */
     uint32_t row_ticks;      /* the caller's: from a row to the next; 1 behind pcm_disk_open */
     uint64_t count[PCM_SETTLED]; /* how often each outcome came, by enum pcm_kind */
     uint64_t settles;        /* how often the program was waited for */
     uint32_t waiting;        /* writes that are accepted and neither stored nor merged, as far as is known */
     int worn;                /* not 0: a bank takes no writes any more, and the disk only reads */
+    int is_idle;             /* while `pcm.log` is given a row: whether it is a read of a bank that was at rest, which changes nothing (below) */
     /* From here on the disk's own. */
     struct pcm_randomiser randomiser;
     uint32_t bank_bits, region_bits, line_bits;     /* of a bank's number, a region's in its bank, and a line's in its region */
     uint32_t sectors, free_block;   /* with `atomic`: how many there are, and which of the sectors + 1 blocks of lines holds none of them */
     uint32_t writes[PCM_DISK_BANKS], reads[PCM_DISK_BANKS]; /* how many of each wait in a bank, as far as is known */
     struct pcm_disk_queued queue[PCM_DISK_BANKS][PCM_DISK_QUEUE]; /* those writes, in the order in which the bank stores them */
-    uint32_t last_bank;      /* where a write was looked for last */
+    uint64_t rests_at[PCM_DISK_BANKS]; /* the tick from which on a bank in which none waits is at rest */
+    uint8_t bank_of[PCM_DISK_BANKS * PCM_DISK_QUEUE]; /* by a write's row, modulo so many: its bank, unless a later row has taken its place here */
     int refused;             /* a write of this request was refused */
     uint8_t *to;             /* where the bytes of this read go; NULL outside a read */
     uint64_t offset;
@@ -103,7 +109,8 @@ struct pcm_disk {
 static inline int pcm_disk_open(struct pcm_disk *disk, const char *const program[], const struct pcm_disk_shape *shape,
                                 const char *const options[]);
 /* A row of an earlier life of the disk, with its LF, is sent again: before the first request, and behind the rows before it. EINVAL where it
-   is none, or its tick falls. What it does to the module is what it did then; nobody is answered. */
+   is none, or its tick falls. What it does to the module is what it did then; nobody is answered. So that rows needn't wait for the program, a write
+   that a full queue refuses, as no disk sends one, may show in a later call. */
 static inline int pcm_disk_replay(struct pcm_disk *disk, const char *row);
 /* Behind the last replayed row: the power was off since. All writes that were acknowledged then are there. Where a bank takes no writes any
    more, the disk only reads. */
@@ -115,8 +122,8 @@ static inline uint64_t pcm_disk_size(const struct pcm_disk *disk);
    rows (2^32 - 2) are at their end, or the program's answers are none; EPIPE where the program has ended. */
 static inline int pcm_disk_read(struct pcm_disk *disk, void *to, size_t size, uint64_t offset);
 /* Writes any bytes; a part of a line is a masked write. Where it answers 0, all are durable. Where it answers anything else, they are written
-   up to some line (with `atomic`, some sector), and not from there on: ESHUTDOWN where a cut came; EROFS where the disk only reads since a bank
-   takes no writes any more (then a line between may be missing, too); else as a read. */
+   up to some line (with `atomic`, some sector), and not from there on, in their order or in that of `order`: ESHUTDOWN where a cut came; EROFS where
+   the disk only reads since a bank takes no writes any more (then a line between may be missing, too); else as a read. */
 static inline int pcm_disk_write(struct pcm_disk *disk, const void *from, size_t size, uint64_t offset);
 /* Time passes up to a tick, where it isn't there yet: waiting writes are stored. ESHUTDOWN where a cut comes and the disk doesn't ride through
    it: its clock stands at the cut then, and nothing that was acknowledged is lost. One cut comes at most, so who rides through a next one at its
@@ -153,6 +160,17 @@ static inline uint64_t pcm_disk__try(const struct pcm_disk *disk)
     return disk->shape.read_ticks + (uint64_t)(disk->shape.line == 64 ? 160 : 208) * disk->shape.iter_ticks;
 }
 
+/* A bank has work for fewer ticks behind its last store, but for reads that come later: a gap move, a change of registers for the store and one for
+   the move, each of which is tried five times at most; and the reads that wait. As long as no cell can have changed as often as it endures (a row
+   brings no line more than 11 line writes), each takes eight rounds at most; later, as long as a line write may, and again for each spare. */
+static inline uint64_t pcm_disk__work(const struct pcm_disk *disk)
+{
+    uint64_t reads = (uint64_t)disk->shape.read_ticks * (disk->shape.read_queue + 1);
+    if (11 * ((uint64_t)disk->pcm.rows + 1) < disk->endures)
+        return reads + 15 * (disk->shape.read_ticks + 8 * (uint64_t)disk->shape.iter_ticks);
+    return reads + 10 * pcm_disk__try(disk) * (disk->shape.spares + 2);
+}
+
 static inline uint32_t pcm_disk_bank(const struct pcm_disk *disk, uint32_t line)
 {
     return pcm__bank_of(&disk->randomiser, line);
@@ -184,7 +202,7 @@ static inline void pcm_disk__copy(struct pcm_disk *disk, const struct pcm_outcom
 static inline void pcm_disk__leave(struct pcm_disk *disk, uint32_t row, int is_merged)
 {
     for (uint32_t i = 0; i < disk->shape.banks; i++) {
-        uint32_t bank = (disk->last_bank + i) & (disk->shape.banks - 1), at = 0, next;
+        uint32_t bank = (disk->bank_of[row % sizeof disk->bank_of] + i) & (disk->shape.banks - 1), at = 0, next;
         struct pcm_disk_queued *queue = disk->queue[bank];
         while (at < disk->writes[bank] && queue[at].row != row)
             at++;
@@ -196,7 +214,7 @@ static inline void pcm_disk__leave(struct pcm_disk *disk, uint32_t row, int is_m
                 at = next;
                 break;
             }
-        disk->last_bank = bank; /* (outcomes come bank by bank) */
+        disk->rests_at[bank] = disk->now + pcm_disk__work(disk);
         disk->writes[bank]--;
         disk->waiting--;
         memmove(queue + at, queue + at + 1, (disk->writes[bank] - at) * sizeof *queue);
@@ -247,10 +265,34 @@ static inline int pcm_disk__settle(struct pcm_disk *disk, uint64_t tick)
     return pcm_disk__fault(pcm_settle_all(&disk->pcm, tick, pcm_disk__take, disk));
 }
 
+/* When banks rest behind a row; and whether it is a read that changes nothing. (Any other read puts off what its bank does by its own time; behind a
+   write the bank's rest is known once none waits.) */
+static inline void pcm_disk__account(struct pcm_disk *disk, char op, uint32_t line)
+{
+    uint32_t bank = pcm_disk_bank(disk, line);
+    disk->is_idle = op == 'R' && disk->writes[bank] == 0 && disk->now >= disk->rests_at[bank];
+    if (op == 'R' && !disk->is_idle)
+        disk->rests_at[bank] += disk->shape.read_ticks;
+    for (bank = 0; op == 'C' && bank < disk->shape.banks; bank++)
+        disk->rests_at[bank] = disk->now + pcm_disk__work(disk);
+}
+
+/* A write was sent: it waits. (There is room for it.) */
+static inline void pcm_disk__wait(struct pcm_disk *disk, uint32_t line)
+{
+    uint32_t bank = pcm_disk_bank(disk, line);
+    struct pcm_disk_queued *last = &disk->queue[bank][disk->writes[bank]++];
+    last->row = disk->pcm.rows;
+    last->line = line;
+    disk->bank_of[last->row % sizeof disk->bank_of] = (uint8_t)bank;
+    disk->waiting++;
+}
+
 /* One row at the disk's tick. */
 static inline int pcm_disk__send(struct pcm_disk *disk, char op, uint32_t line, const uint8_t *bytes, const uint8_t *given)
 {
     enum pcm_result result;
+    pcm_disk__account(disk, op, line);
     for (;;) {
         if (op == 'C')
             result = pcm_cut(&disk->pcm, disk->now);
@@ -265,13 +307,8 @@ static inline int pcm_disk__send(struct pcm_disk *disk, char op, uint32_t line, 
             break;
         pcm_disk__note(disk, &outcome);
     }
-    if (result == PCM_OK && (op == 'W' || op == 'M')) {
-        uint32_t bank = pcm_disk_bank(disk, line);
-        struct pcm_disk_queued *last = &disk->queue[bank][disk->writes[bank]++]; /* (there is room for it) */
-        last->row = disk->pcm.rows;
-        last->line = line;
-        disk->waiting++;
-    }
+    if (result == PCM_OK && (op == 'W' || op == 'M'))
+        pcm_disk__wait(disk, line);
     return pcm_disk__fault(result);
 }
 
@@ -352,28 +389,87 @@ static inline int pcm_disk__room(struct pcm_disk *disk, uint32_t bank, uint32_t 
     return fault;
 }
 
-/* Writes bytes of the disk's lines in their order. `refused` tells behind it whether one of them wasn't accepted. */
+/* A word of SplitMix64. */
+static inline uint64_t pcm_disk__mixed(uint64_t word)
+{
+    word = (word ^ word >> 30) * UINT64_C(0xbf58476d1ce4e5b9);
+    word = (word ^ word >> 27) * UINT64_C(0x94d049bb133111eb);
+    return word ^ word >> 31;
+}
+
+/* Which of `count` lines (sectors) of a write is made behind so many others: in their order; or, with `order`, in one that it draws, by a Feistel network
+   of four rounds over an even number of bits, walked until it comes to one of them. */
+static inline uint32_t pcm_disk__turn(const struct pcm_disk *disk, uint32_t at, uint32_t count)
+{
+    uint32_t bits = 1, low;
+    if (disk->order == 0 || count < 2)
+        return at;
+    while ((count - 1) >> 2 * bits != 0)
+        bits++;
+    low = (UINT32_C(1) << bits) - 1;
+    do
+        for (uint64_t round = 0; round < 4; round++)
+            at = (at & low) << bits | (at >> bits ^ ((uint32_t)pcm_disk__mixed(disk->order + (at & low) * UINT64_C(0x9e3779b97f4a7c15) + round) & low));
+    while (at >= count);
+    return at;
+}
+
+/* The next write has another order. */
+static inline void pcm_disk__draw_order(struct pcm_disk *disk)
+{
+    if (disk->order != 0)
+        disk->order = pcm_disk__mixed(disk->order + UINT64_C(0x9e3779b97f4a7c15)) | 1;
+}
+
+/* A part of a write within one unit (a line, or a sector): so many bytes, from this one on. */
+struct pcm_disk__part {
+    uint64_t begin;
+    uint32_t size;
+};
+
+/* How many parts a write has. */
+static inline uint32_t pcm_disk__parts(uint32_t unit, size_t size, uint64_t offset)
+{
+    return (uint32_t)((offset + size - 1) / unit - offset / unit) + 1;
+}
+
+/* Which of them is made behind so many others. */
+static inline struct pcm_disk__part pcm_disk__nth(const struct pcm_disk *disk, uint32_t at, uint32_t unit, size_t size, uint64_t offset)
+{
+    uint64_t begin = (offset / unit + pcm_disk__turn(disk, at, pcm_disk__parts(unit, size, offset))) * unit, end = begin + unit;
+    begin = begin < offset ? offset : begin;
+    end = end > offset + size ? offset + size : end;
+    const struct pcm_disk__part part = {begin, (uint32_t)(end - begin)};
+    return part;
+}
+
+/* Writes bytes of one line of the disk. */
+static inline int pcm_disk__put_line(struct pcm_disk *disk, const uint8_t *from, const struct pcm_disk__part *part)
+{
+    uint32_t line = disk->shape.line, here = pcm_disk_line(disk, (uint32_t)(part->begin / line)), at = (uint32_t)(part->begin % line);
+    uint8_t whole[PCM_MOST_BYTES] = {0}, given[PCM_MOST_BYTES] = {0};
+    if (part->size == line)
+        return pcm_disk__send(disk, 'W', here, from, NULL);
+    memcpy(whole + at, from, part->size);
+    memset(given + at, 1, part->size);
+    return pcm_disk__send(disk, 'M', here, whole, given);
+}
+
+/* Writes bytes of the disk's lines. `refused` tells behind it whether one of them wasn't accepted. */
 static inline int pcm_disk__put(struct pcm_disk *disk, const uint8_t *from, size_t size, uint64_t offset)
 {
-    uint32_t line = disk->shape.line;
+    uint32_t line = disk->shape.line, count = pcm_disk__parts(line, size, offset);
+    size_t left = size;
     int fault = 0;
-    while (fault == 0 && size > 0) {
-        uint32_t at = (uint32_t)(offset % line), part = size < line - at ? (uint32_t)size : line - at;
-        uint32_t here = pcm_disk_line(disk, (uint32_t)(offset / line));
-        fault = pcm_disk__room(disk, pcm_disk_bank(disk, here), (uint32_t)(size / line / disk->shape.banks) + 1);
+    for (uint32_t i = 0; fault == 0 && i < count; i++) {
+        const struct pcm_disk__part part = pcm_disk__nth(disk, i, line, size, offset);
+        uint32_t bank = pcm_disk_bank(disk, pcm_disk_line(disk, (uint32_t)(part.begin / line)));
+        fault = pcm_disk__room(disk, bank, (uint32_t)(left / line / disk->shape.banks) + 1);
         if (fault == 0)
             fault = pcm_disk__to(disk, disk->now + disk->row_ticks, 0);
-        if (fault == 0 && part == line) {
-            fault = pcm_disk__send(disk, 'W', here, from, NULL);
-        } else if (fault == 0) {
-            uint8_t whole[PCM_MOST_BYTES] = {0}, given[PCM_MOST_BYTES] = {0};
-            memcpy(whole + at, from, part);
-            memset(given + at, 1, part);
-            fault = pcm_disk__send(disk, 'M', here, whole, given);
-        }
-        from += part;
-        offset += part;
-        size -= part;
+        if (fault == 0)
+            fault = pcm_disk__put_line(disk, from + (part.begin - offset), &part);
+        left -= part.size;
     }
     /* what was sent is answered, whatever came: so no answer is left for the next request (behind a cut it has been) */
     if (fault == 0)
@@ -506,14 +602,11 @@ static inline int pcm_disk__put_sector(struct pcm_disk *disk, const uint8_t *fro
 
 static inline int pcm_disk__put_sectors(struct pcm_disk *disk, const uint8_t *from, size_t size, uint64_t offset)
 {
-    uint32_t whole = disk->shape.atomic;
+    uint32_t whole = disk->shape.atomic, count = pcm_disk__parts(whole, size, offset);
     int fault = 0;
-    while (fault == 0 && size > 0) {
-        uint32_t at = (uint32_t)(offset % whole), part = size < whole - at ? (uint32_t)size : whole - at;
-        fault = pcm_disk__put_sector(disk, from, part, (uint32_t)(offset / whole), at);
-        from += part;
-        offset += part;
-        size -= part;
+    for (uint32_t i = 0; fault == 0 && i < count; i++) {
+        const struct pcm_disk__part part = pcm_disk__nth(disk, i, whole, size, offset);
+        fault = pcm_disk__put_sector(disk, from + (part.begin - offset), part.size, (uint32_t)(part.begin / whole), (uint32_t)(part.begin % whole));
     }
     return fault;
 }
@@ -552,6 +645,7 @@ static inline int pcm_disk_write(struct pcm_disk *disk, const void *from, size_t
     if (disk->worn)
         return EROFS;
     disk->refused = 0;
+    pcm_disk__draw_order(disk);
     return disk->shape.atomic != 0 ? pcm_disk__put_sectors(disk, (const uint8_t *)from, size, offset)
                                    : pcm_disk__put(disk, (const uint8_t *)from, size, offset);
 }
@@ -581,18 +675,25 @@ static inline int pcm_disk__get_row(const struct pcm_disk *disk, const char *row
 static inline int pcm_disk_replay(struct pcm_disk *disk, const char *row)
 {
     struct pcm__traced it;
+    struct pcm_outcome outcome;
+    enum pcm_result result;
     if (!pcm_disk__get_row(disk, row, &it))
         return EINVAL;
     disk->now = it.tick;
-    /* (the queue of a write's bank has room by now, as it had then) */
-    const uint32_t *writes = &disk->writes[pcm_disk_bank(disk, (uint32_t)it.line)];
     int fault = 0, is_write = it.op == 'W' || it.op == 'M';
-    if (is_write && *writes == disk->shape.write_queue) {
+    const uint32_t *writes = &disk->writes[pcm_disk_bank(disk, (uint32_t)it.line)];
+    /* (the queue of a write's bank has room by now, as it had then; the program isn't waited for while what may wait, as far as is known, has room here) */
+    if (is_write && *writes == PCM_DISK_QUEUE)
         fault = pcm_disk__settle(disk, it.tick);
-        if (fault == 0 && *writes == disk->shape.write_queue)
-            fault = EINVAL;
-    }
-    return fault == 0 ? pcm_disk__send(disk, it.op, (uint32_t)it.line, it.bytes, it.given) : fault;
+    if (is_write && fault == 0 && *writes == PCM_DISK_QUEUE)
+        fault = EINVAL;
+    if (fault != 0)
+        return fault;
+    while ((result = pcm__send(&disk->pcm, &it)) == PCM_FULL && (result = pcm_next(&disk->pcm, &outcome)) == PCM_OK)
+        pcm_disk__note(disk, &outcome);
+    if (result == PCM_OK && is_write)
+        pcm_disk__wait(disk, (uint32_t)it.line);
+    return disk->count[PCM_FULL_QUEUE] > 0 ? EINVAL : pcm_disk__fault(result);
 }
 
 static inline int pcm_disk_resume(struct pcm_disk *disk)
@@ -602,6 +703,8 @@ static inline int pcm_disk_resume(struct pcm_disk *disk)
         fault = pcm_disk__has_stopped(disk);
     if (fault == EROFS) /* (it is read all the same) */
         fault = 0;
+    if (fault == 0 && disk->count[PCM_FULL_QUEUE] > 0)
+        fault = EINVAL;
     return fault == 0 && disk->shape.atomic != 0 ? pcm_disk__find_free(disk) : fault;
 }
 
@@ -626,7 +729,7 @@ static inline int pcm_disk__shape(struct pcm_disk *disk, const struct pcm_disk_s
     disk->line_bits = pcm__bits(shape->lines);
     if (shape->atomic == 0)
         return 0;
-    if ((shape->atomic != 512 && shape->atomic != PCM_DISK_SECTOR) || bytes < 2 * (uint64_t)shape->atomic + 4)
+    if ((shape->atomic != 512 && !pcm_disk__is_power(shape->atomic, 4096, PCM_DISK_SECTOR)) || bytes < 2 * (uint64_t)shape->atomic + 4)
         return EINVAL;
     disk->sectors = (uint32_t)((bytes - shape->atomic) / (shape->atomic + 4));
     if (disk->sectors > 8)

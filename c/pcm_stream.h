@@ -475,6 +475,14 @@ static inline __m128i pcm__values(const char *at, __m128i *are_digits)
     *are_digits = _mm_and_si128(*are_digits, _mm_and_si128(are_small, are_right));
     return values;
 }
+
+/* The sixteen bytes of 32 digits. */
+static inline __m128i pcm__sixteen(const char *at, __m128i *are_digits)
+{
+    const __m128i low = _mm_set1_epi16(255), one = pcm__values(at, are_digits), two = pcm__values(at + 16, are_digits);
+    return _mm_packus_epi16(_mm_and_si128(_mm_or_si128(_mm_slli_epi16(one, 4), _mm_srli_epi16(one, 8)), low),
+                            _mm_and_si128(_mm_or_si128(_mm_slli_epi16(two, 4), _mm_srli_epi16(two, 8)), low));
+}
 #endif
 
 /* Puts the digits of bytes, and answers where they end; two dots for one that isn't given. */
@@ -506,9 +514,9 @@ static inline int pcm__is_known(const struct pcm *pcm, char op, uint32_t number)
     return shape->version == 0 || number < (uint64_t)shape->banks * shape->regions * shape->lines;
 }
 
-/* Sends a row. `number` is its line, or the row of a settle until; where it has none, it is 0. */
-static inline enum pcm_result pcm__row(struct pcm *pcm, uint64_t tick, char op, uint32_t number, const uint8_t *bytes, const uint8_t *given,
-                                       size_t size)
+/* Begins a row that may come now, where there is room for its text: its tick, its operation and its number (0 where it has none). `at` is where its
+   bytes go. */
+static inline enum pcm_result pcm__begin_row(struct pcm *pcm, uint64_t tick, char op, uint32_t number, char **at)
 {
     int settles = strchr("SQUL", op) != NULL, is_bare = op != 'U' && (settles || op == 'C');
     if (pcm->to <= 0 || tick < pcm->tick || tick > PCM_LAST_TICK || (!settles && pcm->rows >= PCM_LAST_ROW) || !pcm__is_known(pcm, op, number))
@@ -518,25 +526,41 @@ static inline enum pcm_result pcm__row(struct pcm *pcm, uint64_t tick, char op, 
         if (result != PCM_OK)
             return result;
     }
-    char *row = pcm->out + pcm->held, *at = pcm__put_number(row, tick);
-    *at++ = ',';
-    *at++ = op;
-    *at++ = ',';
+    *at = pcm__put_number(pcm->out + pcm->held, tick);
+    *(*at)++ = ',';
+    *(*at)++ = op;
+    *(*at)++ = ',';
     if (!is_bare)
-        at = pcm__put_number(at, number);
-    *at++ = ',';
-    at = pcm__put_bytes(at, bytes, given, size);
+        *at = pcm__put_number(*at, number);
+    *(*at)++ = ',';
+    return PCM_OK;
+}
+
+/* Ends the row, whose bytes end there: it is one of those that are sent, and is logged. */
+static inline void pcm__end_row(struct pcm *pcm, uint64_t tick, char op, char *at)
+{
+    const char *row = pcm->out + pcm->held;
     *at++ = '\n';
     pcm->held += (size_t)(at - row);
     if (op != 'U')
         pcm->tick = tick;
-    if (settles)
+    if (strchr("SQUL", op) != NULL)
         pcm->settles++;
     else
         pcm->rows++;
     if (pcm->log != NULL)
         pcm->log(pcm->context, op, row, (size_t)(at - row));
-    return PCM_OK;
+}
+
+/* Sends a row. `number` is its line, or the row of a settle until; where it has none, it is 0. */
+static inline enum pcm_result pcm__row(struct pcm *pcm, uint64_t tick, char op, uint32_t number, const uint8_t *bytes, const uint8_t *given,
+                                       size_t size)
+{
+    char *at;
+    enum pcm_result result = pcm__begin_row(pcm, tick, op, number, &at);
+    if (result == PCM_OK)
+        pcm__end_row(pcm, tick, op, pcm__put_bytes(at, bytes, given, size));
+    return result;
 }
 
 /* Whether a line may have so many bytes. */
@@ -733,11 +757,8 @@ static inline int pcm__get_bytes(const char *at, uint8_t *bytes)
         return -1;
 #ifdef __SSE2__
     __m128i are_digits = _mm_set1_epi8(-1);
-    for (; i + 32 <= digits; i += 32) {
-        const __m128i low = _mm_set1_epi16(255), one = pcm__values(at + i, &are_digits), two = pcm__values(at + i + 16, &are_digits);
-        _mm_storeu_si128((__m128i *)(bytes + i / 2), _mm_packus_epi16(_mm_and_si128(_mm_or_si128(_mm_slli_epi16(one, 4), _mm_srli_epi16(one, 8)), low),
-                                                                     _mm_and_si128(_mm_or_si128(_mm_slli_epi16(two, 4), _mm_srli_epi16(two, 8)), low)));
-    }
+    for (; i + 32 <= digits; i += 32)
+        _mm_storeu_si128((__m128i *)(bytes + i / 2), pcm__sixteen(at + i, &are_digits));
     if (_mm_movemask_epi8(are_digits) != 0xffff)
         return -1;
 #endif
@@ -937,6 +958,7 @@ struct pcm__traced {
     uint64_t tick, line; /* the line is 0 of a cut */
     char op;             /* R, W, M or C, or a row's that settles, of which no more is read */
     size_t size;         /* of W and M: how many bytes; of which `given` has those that it gives */
+    const char *digits;  /* of these: where they stand in the text */
     uint8_t bytes[PCM_MOST_BYTES], given[PCM_MOST_BYTES];
 };
 
@@ -958,7 +980,19 @@ static inline int pcm__any_digit(char c)
 /* Reads the bytes of a row that writes, and answers where they end: behind the last one that is a byte. */
 static inline const char *pcm__get_given(const char *at, struct pcm__traced *it)
 {
-    for (it->size = 0; it->size < PCM_MOST_BYTES; it->size++, at += 2) {
+    it->size = 0;
+#ifdef __SSE2__
+    /* (sixteen at once, as long as all their digits are lower-case ones) */
+    for (size_t digits = strlen(at); digits >= 32 && it->size + 16 <= PCM_MOST_BYTES; it->size += 16, at += 32, digits -= 32) {
+        __m128i are_digits = _mm_set1_epi8(-1);
+        const __m128i bytes = pcm__sixteen(at, &are_digits);
+        if (_mm_movemask_epi8(are_digits) != 0xffff)
+            break;
+        _mm_storeu_si128((__m128i *)(it->bytes + it->size), bytes);
+        memset(it->given + it->size, 1, 16);
+    }
+#endif
+    for (; it->size < PCM_MOST_BYTES; it->size++, at += 2) {
         int high = pcm__any_digit(at[0]), low = high < 0 ? -1 : pcm__any_digit(at[1]);
         if (low < 0 && (it->op == 'W' || at[0] != '.' || at[1] != '.'))
             break;
@@ -980,20 +1014,27 @@ static inline int pcm__get_row(const char *row, struct pcm__traced *it)
         return 0;
     if (strchr("SQUL", it->op) != NULL)
         return 1;
-    at = it->op != 'C' ? pcm__field(at + 2, &it->line, 8) : at[2] == ',' ? at + 3 : NULL;
+    it->digits = at = it->op != 'C' ? pcm__field(at + 2, &it->line, 8) : at[2] == ',' ? at + 3 : NULL;
     if (at != NULL && (it->op == 'W' || it->op == 'M'))
         at = pcm__get_given(at, it);
     return at != NULL && strcmp(at, "\n") == 0;
 }
 
-/* Sends a row of a trace. */
+/* Sends a row of a trace, its bytes as their digits stand. */
 static inline enum pcm_result pcm__send(struct pcm *pcm, const struct pcm__traced *it)
 {
-    uint32_t line = (uint32_t)it->line; /* (at most eight digits) */
-    return it->op == 'W'   ? pcm_write(pcm, it->tick, line, it->bytes, it->size)
-           : it->op == 'M' ? pcm_write_masked(pcm, it->tick, line, it->bytes, it->given, it->size)
-           : it->op == 'R' ? pcm_read(pcm, it->tick, line)
-                           : pcm_cut(pcm, it->tick);
+    int is_write = it->op == 'W' || it->op == 'M';
+    char *at;
+    if (is_write && !pcm__is_line(pcm, it->size))
+        return PCM_SIZE;
+    if (is_write && memchr(it->given, 1, it->size) == NULL)
+        return PCM_REFUSED;
+    enum pcm_result result = pcm__begin_row(pcm, it->tick, it->op, (uint32_t)it->line, &at); /* (at most eight digits) */
+    if (result != PCM_OK)
+        return result;
+    memcpy(at, it->digits, 2 * it->size);
+    pcm__end_row(pcm, it->tick, it->op, at + 2 * it->size);
+    return PCM_OK;
 }
 
 static inline enum pcm_result pcm_replay(struct pcm *pcm, const char *row, pcm_taker take, void *context)

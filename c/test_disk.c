@@ -1,5 +1,5 @@
-/* Tests of pcm_disk.h over the program that the first word names. Prints 'N passed, M failed'. */
-#include "pcm_disk.h"
+/* Tests of pcm_disk.h and pcm_cache.h over the program that the first word names. Prints 'N passed, M failed'. */
+#include "pcm_cache.h"
 
 static int passed, failed;
 
@@ -22,7 +22,7 @@ static uint64_t draw(uint64_t below)
     return (state >> 11) % below;
 }
 
-#define MOST 65536
+#define MOST 262144
 static const char *program[3] = {NULL, "stream", NULL};
 static struct pcm_disk disk;
 static uint8_t shadow[MOST], bytes[MOST], got[MOST];
@@ -154,6 +154,169 @@ static int cuts_at_every_tick(const struct pcm_disk_shape *shape, uint32_t secto
     check(reads_as_it_should(), "all is read as it was left");
     check(pcm_disk_close(&disk) <= 1, "status 0 or 1");
     return torn;
+}
+
+/* A write that a cut ends, with its lines (sectors) in a drawn order: each is the old one or the new one, and some are new behind an old one. */
+static void drawn_orders(uint32_t atomic)
+{
+    struct pcm_disk_shape shape = small;
+    uint32_t unit = atomic != 0 ? atomic : shape.line, whole = 0, gaps = 0, ended = 0;
+    shape.atomic = atomic;
+    shape.lines = 64;
+    memset(shadow, 0, sizeof shadow);
+    check(pcm_disk_open(&disk, program, &shape, NULL) == 0, "a disk is opened");
+    disk.order = 1;
+    for (uint32_t i = 0; i < 60; i++) {
+        size_t size = 16 * unit - unit / 2, at = unit / 4;
+        int is_gap = 0, is_old = 0, right = 1;
+        fill(bytes, size);
+        disk.cut_at = disk.now + draw(atomic != 0 ? 400 : 15);
+        int fault = pcm_disk_write(&disk, bytes, size, at);
+        disk.cut_at = PCM_DISK_NEVER;
+        ended += fault == ESHUTDOWN;
+        if ((fault != 0 && fault != ESHUTDOWN) || pcm_disk_read(&disk, got, size, at) != 0)
+            break;
+        for (size_t begin = 0, end; right && begin < size; begin = end) {
+            end = ((at + begin) / unit + 1) * unit - at;
+            end = end > size ? size : end;
+            int is_new = memcmp(got + begin, bytes + begin, end - begin) == 0;
+            right = is_new || (fault != 0 && memcmp(got + begin, shadow + at + begin, end - begin) == 0);
+            is_gap |= is_new && is_old;
+            is_old |= !is_new;
+        }
+        whole += (uint32_t)right;
+        gaps += (uint32_t)is_gap;
+        memcpy(shadow + at, got, size);
+    }
+    check(whole == 60 && ended > 20 && gaps > 10, "of a write in a drawn order a cut leaves any lines");
+    check(reads_as_it_should() && pcm_disk_close(&disk) <= 1, "and no other byte");
+}
+
+/* A cache: reads see it, a flush and a write through it are durable, and of the rest a cut leaves any sectors. */
+static void caches(uint32_t most, uint32_t atomic)
+{
+    static struct pcm_cache cache;
+    struct pcm_disk_shape shape = small;
+    uint32_t unit = atomic > 512 ? atomic : 512, lost = 0, kept = 0, gaps = 0;
+    int right = 1;
+    shape.atomic = atomic;
+    shape.lines = atomic > 512 ? 512 : 64;
+    memset(shadow, 0, sizeof shadow);
+    check(pcm_disk_open(&disk, program, &shape, NULL) == 0 && pcm_cache_open(&cache, &disk, most, 1) == 0, "a cache of a disk");
+    uint32_t count = (uint32_t)(pcm_disk_size(&disk) > MOST ? MOST : pcm_disk_size(&disk)) / unit;
+    for (int i = 0; i < 200; i++) {
+        uint64_t at = draw((uint64_t)(count - 1) * unit - 600);
+        size_t size = (size_t)(1 + draw(600));
+        fill(bytes, size);
+        right &= pcm_cache_write(&cache, bytes, size, at, i % 7 == 0) == 0;
+        memcpy(shadow + at, bytes, size);
+        right &= pcm_cache_read(&cache, got, size, at) == 0 && memcmp(got, bytes, size) == 0 && cache.held <= most;
+    }
+    check(right && pcm_cache_flush(&cache) == 0 && cache.held == 0, "what is written is read, and flushed");
+    for (int i = 0; i < 40; i++) {
+        uint32_t first = (uint32_t)draw(count - 3), is_old = 0;
+        fill(bytes, 3 * (size_t)unit);
+        for (uint32_t j = 0; j < 3; j++)
+            right &= pcm_cache_write(&cache, bytes + j * unit, unit, (uint64_t)(first + j) * unit, i % 2) == 0;
+        right &= i % 4 != 0 || pcm_cache_scatter(&cache) == 0;
+        disk.cut_at = disk.now;
+        right &= pcm_disk_go_on(&disk, disk.now) == ESHUTDOWN;
+        pcm_cache_lose(&cache);
+        right &= pcm_cache_read(&cache, got, 3 * (size_t)unit, (uint64_t)first * unit) == 0;
+        for (uint32_t j = 0; j < 3; j++) {
+            uint32_t is_new = memcmp(got + j * unit, bytes + j * unit, unit) == 0;
+            right &= is_new || (i % 2 == 0 && memcmp(got + j * unit, shadow + (first + j) * unit, unit) == 0);
+            gaps += is_new && is_old;
+            is_old |= !is_new;
+            *(is_new ? &kept : &lost) += 1;
+        }
+        memcpy(shadow + (size_t)first * unit, got, 3 * (size_t)unit);
+    }
+    check(right && lost > 10 && kept > 70 && gaps > 3, "a cut takes any sectors that weren't flushed, and no other");
+    check(pcm_disk_read(&disk, got, (size_t)count * unit, 0) == 0 && memcmp(got, shadow, (size_t)count * unit) == 0, "all is as it was left");
+    pcm_cache_close(&cache);
+    check(pcm_disk_close(&disk) <= 1, "status 0 or 1");
+}
+
+/* A log without reads of banks at rest: each of its other rows has the outcome that it has with all reads. */
+struct two_logs {
+    FILE *all, *needed;
+    uint32_t left_out;
+};
+
+static void keep_both(void *context, char op, const char *row, size_t size)
+{
+    struct two_logs *logs = (struct two_logs *)context;
+    if (strchr("RWMC", op) == NULL)
+        return;
+    fwrite(row, 1, size, logs->all);
+    if (disk.is_idle)
+        logs->left_out++;
+    else
+        fwrite(row, 1, size, logs->needed);
+}
+
+struct sums {
+    uint64_t of[PCM_SETTLED + 1];
+};
+
+/* What became of rows beside reads: when, and in which array line, whichever their numbers are. */
+static void digest(void *context, const struct pcm_outcome *it)
+{
+    if (it->kind < PCM_READ || it->kind == PCM_CUT)
+        ((struct sums *)context)->of[it->kind] += pcm_disk__mixed(it->tick * 100003 + it->place + 1);
+}
+
+static struct sums digest_of(FILE *log, const char *const words[])
+{
+    static struct pcm pcm;
+    struct sums it = {{0}};
+    struct pcm_outcome outcome;
+    char row[PCM_MOST_ROW];
+    int right = pcm_open(&pcm, words) == PCM_OK;
+    rewind(log);
+    while (right && fgets(row, sizeof row, log) != NULL)
+        right = pcm_replay(&pcm, row, digest, &it) == PCM_OK;
+    enum pcm_result result = PCM_FULL;
+    while (right && (result = pcm_finish(&pcm)) == PCM_FULL && pcm_next(&pcm, &outcome) == PCM_OK)
+        digest(&it, &outcome);
+    while (result == PCM_OK && pcm_next(&pcm, &outcome) == PCM_OK)
+        digest(&it, &outcome);
+    right = right && result == PCM_OK;
+    check(right && pcm_close(&pcm) <= 1, "a log is played");
+    return it;
+}
+
+static void idle_reads(const char *policy, const char *registers, uint64_t endures)
+{
+    const char *options[] = {"--policy", policy, "--registers", registers, "--misses", "3", "--psi", "3", "--lo", "100000000", "--hi", "100000000", NULL};
+    const char *words[] = {program[0], "stream", "--banks", "4", "--regions", "2", "--lines", "16", "--line", "64", "--spares", "4", "--write-queue", "8",
+                           "--read-queue", "4", "--policy", policy, "--registers", registers, "--misses", "3", "--psi", "3",
+                           "--lo", "100000000", "--hi", "100000000", NULL};
+    struct two_logs logs = {tmpfile(), tmpfile(), 0};
+    check(pcm_disk_open(&disk, program, &small, options) == 0, "a disk is opened");
+    disk.pcm.log = keep_both;
+    disk.pcm.context = &logs;
+    disk.endures = endures;
+    fill(bytes, sizeof bytes);
+    for (int i = 0; i < 3000; i++) {
+        uint64_t offset;
+        size_t size;
+        draw_part(&offset, &size, 700);
+        if (i % 300 < 30)
+            pcm_disk_write(&disk, bytes + draw(1000), size, offset);
+        else
+            pcm_disk_read(&disk, got, size, offset);
+        if (i % 300 == 40 || i % 300 == 41)
+            pcm_disk_go_on(&disk, disk.now + (endures == 0 ? 200000 : 2000));
+        if (i % 300 == 250)
+            disk.cut_at = disk.now + draw(100);
+    }
+    check(pcm_disk_close(&disk) <= 1 && logs.left_out > 3000, "reads of banks at rest");
+    const struct sums all = digest_of(logs.all, words), needed = digest_of(logs.needed, words);
+    check(memcmp(&all, &needed, sizeof all) == 0 && all.of[PCM_STORED] != 0, "change nothing");
+    fclose(logs.all);
+    fclose(logs.needed);
 }
 
 static int play(FILE *log, const struct pcm_disk_shape *shape, const char *const options[])
@@ -421,6 +584,12 @@ static void all_ticks(void)
     FILE *log = tmpfile();
     check(cuts_at_every_tick(&shape, 4096, options, log) == 0, "nor one of 4096 bytes");
     fclose(log);
+    for (uint32_t large = 8192; large <= 16384; large *= 2) {
+        shape.atomic = large;
+        shape.lines = 256;
+        shape.line = 128;
+        check(cuts_at_every_tick(&shape, large, options, NULL) == 0, "nor one of 8 or 16 KiB");
+    }
 }
 
 int main(int count, char **words)
@@ -430,6 +599,16 @@ int main(int count, char **words)
     alarm(600); /* (a disk that waits for ever is no disk) */
     all_requests();
     all_ticks();
+    drawn_orders(0);
+    drawn_orders(512);
+    caches(8, 0);
+    caches(2, 512);
+    caches(64, 4096);
+    for (uint64_t endures = 0; endures <= 100000000; endures += 100000000) {
+        idle_reads("pause", "guarded", endures);
+        idle_reads("plain", "array", endures);
+        idle_reads("cancel", "array", endures);
+    }
     banks(4, 2, 16, 0);
     banks(16, 16, 256, 5);
     banks(2, 16, 128, UINT64_MAX);

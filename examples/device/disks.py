@@ -9,6 +9,12 @@ import time
 from servers import Server, need, run
 
 
+def mounted(place):
+    """Whether the kernel has something mounted there. (Of an XFS that has shut down stat() fails, so os.path.ismount says no.)"""
+    with open("/proc/self/mounts", encoding="utf-8", errors="surrogateescape") as mounts:
+        return str(place) in (line.split()[1].encode().decode("unicode_escape") for line in mounts)
+
+
 class Disk(Server):
     """A server of a disk, and what is mounted of it."""
 
@@ -46,10 +52,12 @@ class Disk(Server):
         return self.loop
 
     def detach(self):
-        if os.path.ismount(self.mount):
-            run("umount", self.mount, ok=(0, 32))
-            if os.path.ismount(self.mount):
-                run("umount", "-l", self.mount)
+        for _ in range(20):
+            if not mounted(self.mount) or run("umount", self.mount, ok=(0, 1, 32)).returncode == 0:
+                break
+            time.sleep(0.05)
+        if mounted(self.mount):
+            run("umount", "-l", self.mount)
         if self.loop:
             run("losetup", "-d", self.loop)
         for _ in range(500):

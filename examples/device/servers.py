@@ -33,6 +33,12 @@ def need(tools):
         sys.exit(77)
 
 
+def fails(message, status=2):
+    """Ends the script with a sentence."""
+    print(f"{pathlib.Path(sys.argv[0]).name}: {message}", file=sys.stderr)
+    sys.exit(status)
+
+
 def whole(least, most=2**40):
     """The type of a number that a script takes."""
     def read(text):
@@ -42,10 +48,11 @@ def whole(least, most=2**40):
     return read
 
 
-def asking(about):
-    """The words that each script takes: the program, the module's and the disk's parameters, and a plugin that was built before."""
+def asking(about, *names):
+    """The words that each script takes: the program, what else it names, the module's and the disk's parameters, and a plugin that was built before."""
     ask = argparse.ArgumentParser(description=about, formatter_class=argparse.RawDescriptionHelpFormatter)
-    ask.add_argument("pcm")
+    for name in ("pcm", *names):
+        ask.add_argument(name)
     ask.add_argument("parameters", nargs="*", default=[], metavar="KEY=VALUE")
     ask.add_argument("--plugin")
     return ask
@@ -65,6 +72,16 @@ def asking_of_cuts(about, cycles):
 def numbers(text):
     """What the control export and a report say: numbers by their words."""
     return {key: int(value) for key, value in (line.split() for line in text.split("\n") if line)}
+
+
+def options_of(log):
+    """What a disk was served with, by the file beside its log: the words of its module, and the disk's own by their names."""
+    try:
+        with open(f"{log}.args", encoding="ascii") as file:
+            module, disk = (line.split() for line in file.read().splitlines()[:2])
+    except (OSError, ValueError) as error:
+        fails(f"{log}.args: {error}: it should have the options of {log}, in two lines")
+    return module, dict(zip(disk[::2], disk[1::2]))
 
 
 class Server:

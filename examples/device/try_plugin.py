@@ -128,6 +128,151 @@ def sectors_are_whole():
         check(disk.pread(4096, 4096) == bytes(4096), "and no other one has changed")
 
 
+def larger_sectors_are_whole():
+    for size in (8192, 16384):
+        with server("banks=4", "regions=2", "lines=256", f"atomic={size}", "misses=2") as it:
+            disk, before, torn, whole = it.connect(), [bytes(size)] * 3, 0, 0
+            for at in range(5, size // 4, size // 52):
+                data = [random.Random(at + i).randbytes(size) for i in range(3)]
+                it.control(f"cut {at}")
+                try:
+                    disk.pwrite(b"".join(data), 2 * size)
+                    it.control(f"wait {at}")
+                except nbd.Error:
+                    pass
+                disk = it.connect()
+                found = disk.pread(3 * size, 2 * size)
+                pieces = [found[i:i + size] for i in range(0, 3 * size, size)]
+                news = [new == piece for new, piece in zip(data, pieces)]
+                torn += any(piece not in (old, new) for piece, old, new in zip(pieces, before, data)) or news != sorted(news, reverse=True)
+                whole += all(news)
+                before = pieces
+            check(torn == 0 and whole > 0, f"sectors of {size} bytes are whole: {torn} torn, {whole} writes whole")
+            check(disk.get_block_size(nbd.SIZE_PREFERRED) == size, "and are the preferred size")
+
+
+def cuts_between_requests():
+    with server(*SMALL, "cut-requests=4") as it:
+        disk, data, lengths, right = it.connect(), b"", [0], True
+        for i in range(200):
+            new = i.to_bytes(4, "little") * 16
+            try:
+                disk.pwrite(new, 0)
+                data = new
+                lengths[-1] += 1
+            except nbd.Error:
+                disk = it.connect()
+                right &= disk.pread(64, 0) == (data or bytes(64))
+                lengths.append(0)
+        check(right and len(lengths) > 30 and max(lengths) <= 8 and len(set(lengths)) > 3, f"cuts between requests: nothing is torn: {lengths}")
+    with server(*SMALL) as it:
+        disk = it.connect()
+        it.control("cut 3 requests")
+        disk.pwrite(b"1", 0)
+        disk.pread(1, 0)
+        disk.flush()
+        check(it.control()["cut"] == 0 and fails(lambda: disk.pwrite(b"2", 0), errno.EIO), "before the third that writes or flushes")
+        check(it.control("cut 1 requests")["cut"] == 1 and it.connect().pread(1, 0) == b"1", "and not before a read")
+        it.control("cut 0 requests")
+        disk = it.connect()
+        disk.pwrite(b"3", 0)
+        check(disk.pread(1, 0) == b"3" and it.control()["cut"] == 1, "and no longer")
+
+
+def any_line_may_be_torn():
+    seen = set()
+    for kind in ("prefix", "any"):
+        with server(*SMALL, f"tear={kind}") as it:
+            disk, before, gaps, right = it.connect(), bytes(1024), 0, True
+            for at in range(30):
+                data = random.Random(at).randbytes(1024)
+                it.control(f"cut {1 + at % 15}")
+                try:
+                    disk.pwrite(data, 0)
+                except nbd.Error:
+                    pass
+                disk = it.connect()
+                found = disk.pread(1024, 0)
+                news = [found[i:i + 64] == data[i:i + 64] for i in range(0, 1024, 64)]
+                right &= all(new or found[i:i + 64] == before[i:i + 64] for new, i in zip(news, range(0, 1024, 64)))
+                gaps += news != sorted(news, reverse=True)
+                before = found
+                it.control("wait 100")
+                disk = it.connect()
+            check(right, f"tear={kind}: lines are whole")
+            seen.add((kind, gaps > 10))
+    check(seen == {("prefix", False), ("any", True)}, f"a write is torn as it is asked for: {seen}")
+
+
+def a_cache_loses_what_is_not_flushed():
+    with server("banks=4", "regions=2", "lines=256", "line=64", "cache=64") as it:
+        disk, draw, lost, right = it.connect(), random.Random(7), 0, True
+        size = disk.get_size()
+        shadow = bytearray(size)
+        for i in range(20):
+            at, data = 512 * draw.randrange(size // 512 - 8), draw.randbytes(4096)
+            disk.pwrite(data, at)
+            right &= disk.pread(4096, at) == data
+            if i % 2:
+                disk.flush()
+            it.control("cut")
+            disk = it.connect()
+            found = disk.pread(4096, at)
+            pieces = [found[i:i + 512] for i in range(0, 4096, 512)]
+            if i % 2:
+                right &= found == data
+            else:
+                right &= all(piece in (data[j:j + 512], shadow[at + j:at + j + 512]) for piece, j in zip(pieces, range(0, 4096, 512)))
+                lost += found != data
+            shadow[at:at + 4096] = found
+        disk.pwrite(b"f" * 600, 100, nbd.CMD_FLAG_FUA)
+        shadow[100:700] = b"f" * 600
+        it.control("cut")
+        check(right and lost > 5 and it.connect().pread(size, 0) == shadow, f"a cache: what was flushed is there; {lost} of 10 writes weren't whole")
+
+
+def sizes_and_suffixes():
+    for words, size in ((["size=64M"], 64 << 20), (["size=1M", "line=64", "banks=4"], 1 << 20), (["size=100M"], 128 << 20), (["size=8K"], 1 << 13),
+                        (["lines=1K"], 32 << 20), (["size=2G", "line=64"], 2 << 30)):
+        with server(*words) as it:
+            check(it.connect().get_size() == size, f"{words}: {size} bytes")
+            if words[0].startswith("size"):
+                check("size: regions=" in said(), f"it says which: {said()}")
+
+
+def first_rows_of_a_log():
+    """Which stays as it is, and may be served by several at once."""
+    log = ROOM / "rows.csv"
+    with server(*SMALL, f"log={log}", "log-reads=all") as it:
+        disk = it.connect()
+        for i in range(20):
+            disk.pwrite(bytes([i + 1]) * 64, 64 * i)
+            disk.pread(64, 64 * i)
+        it.end()
+    before = log.read_bytes()
+    ops = log_of(log)[2]
+    rows = [number for number, op in enumerate(ops, 1) if op == "W"]
+    check(len(ops) == 40 and len(rows) == 20, f"log-reads=all has each read: {ops}")
+    with server(*SMALL, f"log={log}", f"log-rows={rows[9]}") as it, server(*SMALL, f"log={log}", "log-rows=0") as new:
+        disk = it.connect()
+        check(disk.pread(1280, 0) == b"".join(bytes([i + 1 if i < 10 else 0]) * 64 for i in range(20)), "the disk as a row left it")
+        disk.pwrite(b"x", 0)
+        check(new.connect().pread(1280, 0) == bytes(1280), "and as no row did")
+    check(log.read_bytes() == before, "the log stays as it is")
+    refused("rows.csv has 40 rows", *SMALL, f"log={log}", "log-rows=41")
+    idle = ROOM / "idle.csv"
+    with server(*SMALL, f"log={idle}") as it:
+        disk = it.connect()
+        disk.pwrite(b"x" * 64, 0)
+        disk.pread(64, 0)
+        it.control("wait 100000")
+        it.control("wait 100000")
+        for _ in range(20):
+            disk.pread(512, 0)
+        it.end()
+    check(log_of(idle)[2] == ["W", "R"], f"reads of banks at rest are left out: {log_of(idle)[2]}")
+
+
 def clients_ride_through(*parameters):
     with server(*SMALL, "on-cut=ride", "policy=cancel", "registers=array", "misses=2", *parameters) as it:
         disk, draw = it.connect(), random.Random(3)
@@ -344,7 +489,7 @@ def wrong_parameters():
             ("banks=12", "a power of two from 1 to 64"), ("banks=128", "from 1 to 64"), ("lines=2", "from 4 to 67108864"), ("line=32", "from 64 to 128"),
             ("regions=", "a power of two"), ("policy=wait", "pause|plain|cancel"), ("registers=disk", "guarded|array"), ("psi=0", "from 1 to 65535"),
             ("spares=1025", "from 0 to 1024"), ("misses=8", "from 0 to 7"), ("write-queue=0", "from 1 to 256"), ("read-queue=257", "from 1 to 256"),
-            ("seed=-1", "from 0 to 18446744073709551615"), ("atomic=1024", "0|512|4096"), ("on-cut=wait", "drop|ride"), ("straight=1", "false|true"),
+            ("seed=-1", "from 0 to 18446744073709551615"), ("atomic=1024", "0|512|4096|8192|16384"), ("on-cut=wait", "drop|ride"), ("straight=1", "false|true"),
             ("cut-ticks=5,5", "rising ticks"), ("tick-ns=x", "from 0 to 1000000000"), ("frog=1", "there is no parameter frog"),
             ("lo=200000000", "is above hi"), ("pcm=/nowhere/pcm", "No such file"), ("pcm=/bin/false", "it has ended"), ("log=/nowhere/log", "No such file"),
             ("tick-ns=-1", "from 0 to 1000000000")):
@@ -352,6 +497,13 @@ def wrong_parameters():
     refused("psi stands twice", "psi=5", "psi=6")
     refused("at most 2^26", "banks=64", "regions=64", "lines=32768")
     refused("give one of the two", "cuts=5", "cut-ticks=9")
+    refused("not with on-cut=ride", "cache=9", "on-cut=ride")
+    refused("give at most one", "size=1M", "lines=16", "regions=2")
+    refused("no such module", "size=1G", "lines=4")
+    refused("at most 2^26", "size=8G", "line=64")
+    refused("give log", "log-rows=3")
+    for value in ("M", "1T", "1MM", "99999999999999999999K", "17179869184G", "-1K", ""):
+        refused("it is a number from", f"size={value}")
     refused("has no room", "banks=1", "regions=1", "lines=4", "atomic=4096")
 
 
@@ -360,13 +512,16 @@ def children(process):
 
 
 def a_program_that_ends():
+    """So does its server, and says so."""
     with server(*SMALL) as it:
         disk = it.connect()
         disk.pwrite(b"x" * 512, 0)
         for child in children(it.process.pid):
             os.kill(child, signal.SIGKILL)
-        check(fails(lambda: disk.pwrite(b"y" * 512, 0), errno.EIO) and fails(lambda: disk.pread(512, 0), errno.EIO), "its requests fail")
-        check("the program has ended" in said(), "and it is said why")
+        check(fails(lambda: disk.pwrite(b"y" * 512, 0), errno.EIO), "its requests fail")
+        it.open.clear()
+        check(it.process.wait(30) == 1, "its server's status isn't 0")
+        check("has ended" in said() and "so does the server" in said(), f"and it is said why: {said()}")
         check(it.end()["status"] == -1, "so says the report")
 
 
@@ -406,6 +561,7 @@ def a_module_that_wears_out():
         check(it.control()["read_only"] == 1, "control says so")
         it.control("cut")
         check(it.connect().pread(size, 0) == shadow, "behind a power cut, too")
+        check(disk.is_read_only() is False and it.connect().is_read_only() is True, "and it says that it can't be written")
 
 
 def real_time():
@@ -425,6 +581,12 @@ def main():
         parts_of_lines()
         a_cut_ends_connections()
         sectors_are_whole()
+        larger_sectors_are_whole()
+        cuts_between_requests()
+        any_line_may_be_torn()
+        a_cache_loses_what_is_not_flushed()
+        sizes_and_suffixes()
+        first_rows_of_a_log()
         cuts_are_drawn_or_named()
         cuts_of_control_come_beside_the_others()
         a_module_that_forgets_is_found_out()

@@ -31,7 +31,7 @@ def calls() -> Iterator[Tuple[str, List[int]]]:
 
 def parameters() -> Dict[str, List[str]]:
     """The disk's parameters that are the module's own."""
-    table = text("c/nbdkit_pcm.c").partition("} parameters[] = {")[2].partition("/* the disk's */")[0]
+    table = text("c/nbdkit_parameters.h").partition("} parameters[] = {")[2].partition("/* the disk's */")[0]
     return {name: [it.strip() for it in rest.split(",")] for name, rest in re.findall(r'\{"([a-z-]+)", ([^}]*)\}', table)}
 
 
