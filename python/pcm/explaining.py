@@ -1,6 +1,6 @@
 """Why results of a trace break a rule: what the program says of them, and the row in time as a picture.
 
-usage: python3 -m pcm explain FILE [RESULTS] [options] [--all | -o PICTURE]
+usage: python3 -m pcm explain FILE [RESULTS] [options] [--strict] [--all | -o PICTURE]
 
 FILE has a trace with its results behind it, as `./pcm check` reads them, or the trace alone where RESULTS has its results; `-` is standard
 input. Options are those of `./pcm explain`, whose text is printed. Where a row breaks a rule, -o (--output) names a file of SVG that shows
@@ -115,19 +115,21 @@ def main(words: Sequence[str]) -> int:
 
 
 class Asked(NamedTuple):
-    """What the command is asked for: the names of the one or two files, the options, the picture's name, and whether all banks are told."""
+    """What the command is asked for: the names of the one or two files, the options, the picture's name, whether all banks are told, and
+    whether worn rows must be earned."""
 
     names: List[str]
     options: Dict[str, str]
     output: Optional[str]
     all_banks: bool
+    strict: bool
 
 
 def _explain(words: Sequence[str]) -> int:
     asked = _parsed(words)
     files = [opened(kind, name) for kind, name in zip(("trace", "results"), asked.names)]
     table = files[0]._replace(data=_whole(files))
-    more = [word for name, value in asked.options.items() for word in (f"--{name}", value)]
+    more = [*(word for name, value in asked.options.items() for word in (f"--{name}", value)), *(["--strict"] if asked.strict else [])]
     if asked.all_banks:
         text, found = _all_of(files, more, None)
         sys.stdout.write("".join([text.partition("\n")[0], "\n", *(it.text for it in found), counted(found, asked.options) if found else ""]))
@@ -150,8 +152,8 @@ def _write(name: str, text: str) -> None:
 
 def _parsed(words: Sequence[str]) -> Asked:
     """What words ask for."""
-    asked = Asked([], {}, None, "--all" in words)
-    rest = [word for word in words if word != "--all"]
+    asked = Asked([], {}, None, "--all" in words, "--strict" in words)
+    rest = [word for word in words if word not in ("--all", "--strict")]
     while rest:
         word = rest.pop(0)
         name, equals, value = word.lstrip("-").partition("=")
@@ -168,7 +170,9 @@ def _parsed(words: Sequence[str]) -> Asked:
         else:
             asked.options[name] = value
     if len(asked.names) not in (1, 2):
-        raise UsageError(2, "usage: python3 -m pcm explain FILE [RESULTS] [options] [--all | -o PICTURE]  (--help tells more)")
+        raise UsageError(2, "usage: python3 -m pcm explain FILE [RESULTS] [options] [--strict] [--all | -o PICTURE]  (--help tells more)")
     if asked.all_banks and asked.output is not None:
         raise UsageError(2, "-o draws one row: --all can't stand beside it")
+    if asked.all_banks and asked.strict:
+        raise UsageError(2, "--strict asks of whole tables: --all can't stand beside it")
     return asked

@@ -144,7 +144,7 @@ Right = Union[ReadBetween, StoredBy, Outcome]
 class Explanation:
     """Why a row breaks a rule (`serves`, `queue`, `worn` or `tick`): what it asks, what it was told, the clause that it breaks and the clause
     in a sentence, what breaks it, and all answers that would be right. None is where the bank `no_room` holds too much as the row comes, or
-    where two clauses leave no tick. `text` is what the program printed."""
+    where clauses leave no tick; and none is told of a row that breaks `Earned` alone. `text` is what the program printed."""
 
     row: int
     rule: str
@@ -300,7 +300,7 @@ def read_explanation(text: str) -> Optional[Explanation]:
         raise ExplanationError(3, "an outcome with bytes exactly where a read is answered", answer[0])
     breaks = lines.take(_BREAKS, "the clause, `  breaks NAME: SENTENCE`")
     facts = _facts(lines)
-    right, no_room = _rights(lines, int(head[1]))
+    right, no_room = ((), None) if breaks[1] == "Earned" and lines.ended else _rights(lines, int(head[1]))
     op = {"read": "R", "write": "W"}.get(asked[1], "C")
     return Explanation(
         row=int(head[1]), rule=head[2], asks=Asks(op, _natural(asked[2]), int(asked[3]), _natural(asked[4])),

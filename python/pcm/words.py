@@ -174,11 +174,12 @@ COMMANDS = {
 }
 # Those that are programs of their own, beside the one that has the others.
 ALONE = ("stream", "explain", "view")
-# What the wrapper takes behind a command besides its options, without a value.
+# What stands behind a command without a value: the wrapper takes all but those that the program itself does.
 FLAGS = {
     **dict.fromkeys(("run", "stream"), {"progress": "tells how far it is"}),
-    "explain": {"all": "explains the first row of each bank that breaks a rule"},
+    "explain": {"all": "explains the first row of each bank that breaks a rule", "strict": "asks that each worn row is earned"},
 }
+OWN_FLAGS = {"explain": ("strict",)}
 # What the wrapper answers by itself.
 WRAPPERS = {
     "help": "prints this help", "version": "prints the version", "path": "prints where the built program is",
@@ -308,11 +309,15 @@ def wrong_word(words: Sequence[str]) -> Optional[str]:
     while at < len(words):
         word = words[at]
         name, sign, text = word[2:].partition("=")
-        if not word.startswith("--") or name not in command.options:
+        is_flag = word.startswith("--") and not sign and name in OWN_FLAGS.get(command.name, ())
+        if not is_flag and (not word.startswith("--") or name not in command.options):
             return _no_option(command, word)
         if name in given:
             return f"--{name} stands twice"
         at += 1
+        if is_flag:
+            given[name] = ""
+            continue
         if not sign:
             if at == len(words) or words[at].startswith("--"):
                 return f"--{name} lacks its value: it may be {command.options[name].range()}"

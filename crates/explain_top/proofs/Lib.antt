@@ -3,4 +3,3 @@ mod Deciding
 mod Rows
 mod Sizes
 mod Telling
-mod Told

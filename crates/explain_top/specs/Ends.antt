@@ -1,6 +1,6 @@
 -- How the parts of a call end.
 use Rattle.std.specs.Prelude.{◌≡◌, ◌≢◌, ◌≤◌, ℕ, false, Result}
-use Rattle.command_line.specs.declared.job.CheckJob.{CheckJob}
+use Rattle.explain_words.specs.declared.job.ExplainJob.{ExplainJob}
 use Rattle.program_calls.specs.Calls.{Gets, GetsPart, IsUntouched, Lent, SinkChange, SinkFails, SourceChange}
 use Rattle.pcm_top.specs.{Checking.{IsCheckFault, room_line}, Ends.{Ends as EndsBy, Reads}, FaultLines.status_of, Reading.trace_room}
 use Rattle.pcm_top.specs.{Running.{HasCause, IsTried, reads_source, room_of}, declared.fault.Fault.Fault, declared.fault.Fault.TheVariants.{Usage, Write, NoMemory}}
@@ -17,10 +17,10 @@ pub record IsToldOf (fault : Fault) (err : SinkChange) (status : ℕ) : Type 0 w
   pub write : fault ≡ Write → status ≡ status_of Write
 
 -- how the verdict on results over lines of n bytes with e error-correcting pointers is explained: as it is told by a check, but for the text
-pub record EndsExplanation {K : Type 0} (n e : ℕ) (job : CheckJob)
+pub record EndsExplanation {K : Type 0} (n e : ℕ) (job : ExplainJob)
     (source : SourceChange) (out : Lent K SinkChange) (result : Result Done Fault) : Type 0 where
   pub ends : EndsBy (TellsExplanation n e job source out.seen) (TellsExplanationInPart n e job source out.seen)
-      (λ fault. IsCheckFault n job fault source) out result
+      (λ fault. IsCheckFault n job.check fault source) out result
   pub reads : Reads (trace_room room_line) source result
 
 -- how a call ends, before its fault is told

@@ -5,4 +5,3 @@ pub mod FaultLines
 pub mod Explaining
 pub mod Ends
 pub mod Promises
-pub mod RightWrites

@@ -4,8 +4,8 @@ use Rattle.command_line.specs.declared.job.Refusal.TheVariants as refusal
 use Rattle.program_calls.specs.Calls.{Gets, GetsPart, IsUntouched, Lent, SinkChange, SinkFails}
 use Rattle.pcm_top.specs.{FaultLines.status_of, Reading.{OnOverflow, SourceFails}, Running.{HasCause, IsTried, reads_source, room_of, status_done}, Statuses.IsStatusFor}
 use Rattle.pcm_top.specs.{declared.fault.Fault.Fault, declared.fault.Fault.TheVariants.{Usage, Write, TooLong, NoMemory}, declared.run.Done.Done}
-use Rattle.pcm_top.specs.declared.run.Done.TheVariants.{Short}
-use Rattle.explain_top.specs.{Calls.{Call, as_check}, Explaining.{Does, DoesPart}, FaultLines.fault_line}
+use Rattle.pcm_top.specs.declared.run.Done.TheVariants.{Whole, Short}
+use Rattle.explain_top.specs.{Calls.{Call, as_check, is_strict}, Explaining.{Does, DoesPart}, FaultLines.fault_line}
 
 -- of a call, the place where faults are told, and the status that was answered
 module _ {S K F : Type 0} (call : Call S K) (err : Lent F SinkChange) (status : ℕ) where
@@ -56,10 +56,16 @@ module _ {S K F : Type 0} (call : Call S K) (err : Lent F SinkChange) (status : 
   abbrev pub IsGiven : List ℕ → Type 0
   IsGiven bytes = reads_source (as_check call.asked) ≡ true → call.source.seen.left_before ≡ Some bytes
 
+  -- the status that the bytes have
+  abbrev pub IsStatusOf : List ℕ → Type 0
+  IsStatusOf bytes =
+      IsStatusFor (as_check call.asked) bytes status
+      ⊎ ((is_strict call.asked ≡ true) × (status ≡ status_done Short) × IsStatusFor (as_check call.asked) bytes (status_done Whole))
+
   -- what holds of every call
   pub record KeepsPromises : Type 0 where
-    -- The work was done: the source was read to its end, and exactly check's line and what is told behind it was written. The status is 1
-    -- exactly where the verdict isn't ok.
+    -- The work was done: the source was read to its end, and exactly the verdict's line and what is told behind it was written. The status
+    -- is 1 exactly where the verdict isn't ok.
     pub done : OnDone EndsDone
     pub silent : OnDone (IsUntouched err)
     -- It was not: the status is that of a fault which has its cause, and its line was written; nothing else was.
@@ -73,5 +79,6 @@ module _ {S K F : Type 0} (call : Call S K) (err : Lent F SinkChange) (status : 
         → ((status ≡ status_of Usage) ⊎ (status ≡ status_of NoMemory) ⊎ IsUntold) × IsUntouched call.out
     -- More bytes than there may be are always answered with the status for that.
     pub too_long : OnOverflow (room_of (as_check call.asked)) call.source.seen ((status ≡ status_of TooLong) ⊎ IsUntold)
-    -- Where nothing fails, the status is the one that words and bytes have of a check, or memory ran out.
-    pub status_is : (bytes : List ℕ) → IsGiven bytes → OnNoFault (IsStatusFor (as_check call.asked) bytes status ⊎ (status ≡ status_of NoMemory))
+    -- Where nothing fails, the status is the one that words and bytes have of a check, or memory ran out; where more is asked of worn rows,
+    -- it may be 1 where that of a check is 0.
+    pub status_is : (bytes : List ℕ) → IsGiven bytes → OnNoFault (IsStatusOf bytes ⊎ (status ≡ status_of NoMemory))

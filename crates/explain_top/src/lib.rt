@@ -5,7 +5,6 @@
 #![tactic(auto)]
 
 mod fault;
-pub mod laws;
 mod program;
 mod report;
 pub mod text;

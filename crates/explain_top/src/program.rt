@@ -10,8 +10,8 @@ ghost use Rattle.explain_top.specs.Promises.{KeepsPromises};
 
 use crate::fault::tell;
 use crate::report::report_explanation;
-use command_line::{CheckJob, Refusal};
-use explain_words::read_explain_job;
+use command_line::Refusal;
+use explain_words::{ExplainJob, read_explain_job};
 use pcm_io::{Sink, Source};
 use pcm_top::{Done, Fault};
 use std::alloc::Global;
@@ -28,11 +28,11 @@ fn give_up<F: Sink>(fault: Fault, err: &mut F) -> u8
 }
 
 // The job of the words.
-fn read_words(alloc: Global, words: &[String]) -> Result<CheckJob, Fault>
+fn read_words(alloc: Global, words: &[String]) -> Result<ExplainJob, Fault>
     ensures ok { IfOk result (λ job. explain_job_of (map string_bytes words.now) ≡ Ok job) }
     ensures err { IfErr result (λ fault.
         IsRefused (as_check (explain_job_of (map string_bytes words.now))) fault) }
-    ensures in_range { IfOk result IsCheck }
+    ensures in_range { IfOk result (λ job. IsCheck job.check) }
 {
     let job = read_explain_job(alloc, words)?;
     Ok(job)
@@ -58,7 +58,7 @@ fn work<S: Source, K: Sink>(
 }
 
 /// Runs the program on the words behind its name, and answers its status: 0 the verdict is ok, 1 a
-/// row breaks a rule, and that is explained, 2 the words ask for nothing, 3 the trace or its
+/// row breaks a rule, or isn't earned where that is asked, and that is explained, 2 the words ask for nothing, 3 the trace or its
 /// results have a fault, 4 reading failed, 5 writing failed, 6 there are too many bytes or rows, 7
 /// memory ran out. The source is read to its end before the first byte is written.
 pub fn explain_run<S: Source, K: Sink, F: Sink>(

@@ -7,7 +7,8 @@ ghost use Rattle.explain_top.specs.Ends.{EndsCall, EndsExplanation};
 ghost use Rattle.explain_top.specs.Explaining.{ReadsExplanation};
 
 use crate::text::{Explained, explain_text};
-use command_line::{CheckJob, LineSize};
+use command_line::LineSize;
+use explain_words::ExplainJob;
 use pcm_io::{Sink, Source, read_all, write_all};
 use pcm_top::{CHECK_ROOM, Done, Fault, done_on};
 use std::alloc::Global;
@@ -15,7 +16,7 @@ use std::alloc::Global;
 // What is told of a trace and its results that the source gives.
 fn read_explained<const B: usize, const E: usize, S: Source>(
     alloc: Global,
-    job: &CheckJob,
+    job: &ExplainJob,
     source: &mut S,
 ) -> Result<Explained, Fault>
     requires some_size { 1 ≤ B }
@@ -23,10 +24,16 @@ fn read_explained<const B: usize, const E: usize, S: Source>(
     requires few { E ≤ 8 }
     ensures { let s = source_change S.left S.taken S.faults source.old source.new in
         Gives (λ made. ReadsExplanation B E job.now s made.verdict made.text.items)
-        (λ fault. IsCheckFault B job.now fault s) s result }
+        (λ fault. IsCheckFault B job.now.check fault s) s result }
 {
     let bytes = read_all(alloc, source, CHECK_ROOM)?;
-    let made = explain_text::<B, E>(alloc, bytes.as_slice(), &job.shape, job.seed)?;
+    let made = explain_text::<B, E>(
+        alloc,
+        bytes.as_slice(),
+        &job.check.shape,
+        job.check.seed,
+        job.strict,
+    )?;
     Ok(made)
 }
 
@@ -41,7 +48,7 @@ fn write_text<K: Sink>(text: &[u8], out: &mut K) -> Result<(), Fault>
 // Reads a trace over lines of `B` bytes, and its results, and writes what is told of them.
 fn explain<const B: usize, const E: usize, S: Source, K: Sink>(
     alloc: Global,
-    job: &CheckJob,
+    job: &ExplainJob,
     source: &mut S,
     out: &mut K,
 ) -> Result<Done, Fault>
@@ -60,7 +67,7 @@ fn explain<const B: usize, const E: usize, S: Source, K: Sink>(
 /// Reads a trace and its results, and writes what is told of them.
 pub fn report_explanation<S: Source, K: Sink>(
     alloc: Global,
-    job: &CheckJob,
+    job: &ExplainJob,
     source: &mut S,
     out: &mut K,
 ) -> Result<Done, Fault>
@@ -70,7 +77,7 @@ pub fn report_explanation<S: Source, K: Sink>(
       out = lent_sink K.written K.faults out.old out.new;
     }) result }
 {
-    match job.line {
+    match job.check.line {
         LineSize::Bytes64 => explain::<64, 6, S, K>(alloc, job, source, out),
         LineSize::Bytes128 => explain::<128, 8, S, K>(alloc, job, source, out),
     }

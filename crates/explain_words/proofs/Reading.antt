@@ -3,9 +3,9 @@ use Rattle.std.proofs.Common.{◌≡◌, ◌≢◌, ◌⊎◌, inl, inr, List, [
 use Rattle.std.specs.{Option.ok_or, Prelude.{Result, Err}}
 use Rattle.clap.specs.{Words.{App, IsAmong, Row, Text, fault_of, is_simple, is_simple_and_free, kind_of, matches_of}, declared.error.Error.Error}
 use Rattle.clap.specs.{declared.error.kind.ErrorKind.ErrorKind, declared.error.kind.ErrorKind.TheVariants.OutOfMemory}
-use Rattle.command_line.specs.{Jobs.{faults_at, or_usage}, Table.leaf_app, declared.job.CheckJob.CheckJob, declared.job.Refusal.Refusal, declared.job.Refusal.TheVariants.Usage}
+use Rattle.command_line.specs.{Jobs.{faults_at, or_usage}, Table.leaf_app, declared.job.Refusal.Refusal, declared.job.Refusal.TheVariants.Usage}
 use Rattle.command_line.proofs.Reading.{faults-are, refused_by}
-use Rattle.explain_words.specs.{Jobs.{job_at, options_at, explain_job_of, explain_of}, Table.explain_app}
+use Rattle.explain_words.specs.{Jobs.{job_at, options_at, explain_job_of, explain_of}, Table.explain_app, declared.job.ExplainJob.ExplainJob}
 
 -- clap gives the matches and the faults of the program's command
 simple : is_simple explain_app ≡ true
@@ -32,7 +32,7 @@ unfolding options_at
 options-are app words = refl
 
 -- the program's own command
-own : (words : List Text) (app : App) (r : Result CheckJob Refusal) → app ≡ explain_app → job_at app words ≡ r → explain_job_of words ≡ r
+own : (words : List Text) (app : App) (r : Result ExplainJob Refusal) → app ≡ explain_app → job_at app words ≡ r → explain_job_of words ≡ r
 unfolding explain_job_of
 own words app r p e = sym (ap (λ x. job_at x words) p) ∙ e
 
@@ -55,6 +55,6 @@ job-of-refused words app e p kinds other =
     own words app _ p (refused app words (kind_of e) some)
 
 -- a job or a faulty command line, in std's words
-pub usage-or : (job : Option CheckJob) → or_usage job ≡ ok_or job Usage
+pub usage-or : (job : Option ExplainJob) → or_usage job ≡ ok_or job Usage
 usage-or None = refl
 usage-or (Some job) = refl

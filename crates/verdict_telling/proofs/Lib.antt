@@ -1,3 +1,9 @@
+mod Banks
+mod Lines
+mod RightReads
+mod RightWrites
+mod Rightly
+mod Earning
 mod Tables
 mod Named
 mod Telling

@@ -1,63 +1,23 @@
 -- What is told of a row is what it finds.
-use Rattle.std.proofs.Common.{◌≡◌, ℕ, suc, ◌+◌, ◌-◌, ◌==◌, ◌&&◌, ◌||◌, ◌≤◌, ◌<◌, Bool, true, false, List, [], ◌∷◌, Option, Some, None, length, refl, sym, ap, ◌∙◌, cond, subst, arith}
-use Rattle.std.{specs.List.list_any, specs.Prelude.{drop, filter, nat_lt, reverse, slice_get, take}, proofs.lemmas.Bool.{le-leb, leb-true}}
-use Rattle.masked_bytes.proofs.Truth.{and_first, and_second}
+use Rattle.std.proofs.Common.{◌≡◌, ℕ, suc, ◌-◌, ◌==◌, ◌≤◌, Bool, true, List, [], ◌∷◌, Option, Some, None, length, refl, sym, ap, ◌∙◌, subst, arith}
+use Rattle.std.{specs.List.list_any, specs.Prelude.{drop, filter, nat_lt, reverse, slice_get, take}}
 use Rattle.result_rows.specs.declared.Outcome.{Outcome}
 use Rattle.result_rows.specs.declared.Outcome.TheVariants as out
-use Rattle.row_rules.specs.{Lines.IsOfLines, Queueing.{pending, is_refused}, Rows.write_of, Table.{is_of, of_bank}, Wearing.worn_row, declared.Asks.Asks}
+use Rattle.row_rules.specs.{Queueing.{pending, is_refused}, Rows.write_of, Table.{is_of, of_bank}, Wearing.worn_row, declared.Asks.Asks}
 use Rattle.row_rules.specs.{declared.Asks.TheVariants.{Reads, Writes, Cuts}, declared.Row.Row, declared.Rules.Rules}
-use Rattle.check_judging.specs.Rising.{rising}
 use Rattle.check_verdict.specs.{Judged.{a_cut, a_read, a_row, a_write, beside}, Verdicts.{bank_in, verdict_of}, declared.Rule.Rule, declared.Verdict.TheVariants.No}
 use Rattle.check_verdict.proofs.{Fits.any-reverse, Settles.filter-reverse}
-use Rattle.check_telling.specs.{Clauses.{holds, latest}, Grounds.{TellsRead, grounds_of}, Standing.{first_at, mates_of, numbered, row_at, rows_of}, WriteGrounds.TellsWrite}
+use Rattle.check_telling.specs.{Right.RightReadLaw, RightWrites.{RightCutLaw, RightWriteLaw}}
+use Rattle.check_telling.specs.{Clauses.{holds, latest}, Grounds.{TellsRead, grounds_of}, Standing.{first_at, mates_of}, WriteGrounds.TellsWrite}
 use Rattle.check_telling.specs.{declared.Clause.Clause, declared.facts.RowAt.RowAt, declared.facts.StoreCounts.StoreCounts, declared.grounds.Grounds.Grounds}
-use Rattle.check_telling.specs.{declared.mates.Numbered.Numbered, declared.writes.WriteGrounds.WriteGrounds}
+use Rattle.check_telling.specs.{declared.writes.WriteGrounds.WriteGrounds}
 use Rattle.check_telling.specs.declared.Clause.TheVariants as clause
 use Rattle.clause_telling.specs.{ByFinds.{read_clause, write_clause}, Counts.TellsCounts, Others.is_near, Rooms.{TellsRoom, is_room}, declared.room.Crowd.Crowd}
 use Rattle.clause_telling.proofs.{ReadClauses.{read_clause_law, cut_clause_law}, Rooms.room_law, WriteClauses.write_clause_law}
-use Rattle.verdict_telling.specs.Explained.{Explains, MayTell, TellsAsked, TellsOf, TellsOne, TellsRow, IsWriteOf, IsOfCut, is_some_row, late_of, stale_of}
-use Rattle.verdict_telling.{specs.declared.row.Explanation.Explanation, specs.declared.row.Finds.Finds, proofs.Tables.{behind, same_one, there}}
+use Rattle.verdict_telling.specs.Explained.{AreRight, Explains, MayTell, TellsAsked, TellsOf, TellsOne, TellsRow, IsWriteOf, IsOfCut, is_some_row, late_of, stale_of}
+use Rattle.verdict_telling.{specs.declared.row.Explanation.Explanation, specs.declared.row.Finds.Finds, specs.Offers.lines_of}
+use Rattle.verdict_telling.proofs.{Banks.{rising_of_bank, rows_are, worn_is}, Rightly.{cut_right, read_right, write_right}, Tables.{behind, same_one, there}}
 use Rattle.verdict_telling.specs.declared.row.Finds.TheVariants as finds
-
-module _ {n : ℕ} where
-  rising_of_bank : (bank_of : ℕ → ℕ) (bank t : ℕ) (rows : List (Row n)) → rising t rows ≡ true → rising t (of_bank bank_of bank rows) ≡ true
-  rising_of_bank bank_of bank t [] h = refl
-  rising_of_bank bank_of bank t (q ∷ rows) h = by (is_of bank_of bank q.asks) (rising_of_bank bank_of bank q.tick rows (and_second _ _ h))
-    where
-      rising_less : (s t : ℕ) (rows : List (Row n)) → t ≤ s → rising s rows ≡ true → rising t rows ≡ true
-      rising_less s t [] le h = refl
-      rising_less s t (q ∷ rows) le h =
-          let a = leb-true s q.tick (and_first _ _ h) in
-          ap (λ b. b && rising q.tick rows) (le-leb t q.tick (omega (arith, a, le))) ∙ and_second _ _ h
-
-      by : (b : Bool) → rising q.tick (of_bank bank_of bank rows) ≡ true → rising t (cond b (q ∷ of_bank bank_of bank rows) (of_bank bank_of bank rows)) ≡ true
-      by true k = ap (λ b. b && rising q.tick (of_bank bank_of bank rows)) (and_first _ _ h) ∙ k
-      by false k = rising_less q.tick t (of_bank bank_of bank rows) (leb-true t q.tick (and_first _ _ h)) k
-
-  worn_is : (told : List (Numbered n)) → is_some_row (first_at worn_row told) ≡ list_any worn_row (rows_of told)
-  worn_is [] = refl
-  worn_is (one ∷ told) = by (worn_row one.row) (worn_is told)
-    where
-      by : (b : Bool) → is_some_row (first_at worn_row told) ≡ list_any worn_row (rows_of told)
-          → is_some_row (cond b (Some (row_at one)) (first_at worn_row told)) ≡ (b || list_any worn_row (rows_of told))
-      by true h = refl
-      by false h = h
-
-  -- a bank's rows are those of its numbered rows
-  rows_are : (bank_of : ℕ → ℕ) (bank above : ℕ) (rows : List (Row n)) → rows_of (mates_of bank_of bank above rows) ≡ of_bank bank_of bank rows
-  rows_are bank_of bank above [] = refl
-  rows_are bank_of bank above (q ∷ rows) = by (is_of bank_of bank q.asks) (rows_are bank_of bank (above + 1) rows)
-    where
-      by : (b : Bool) → rows_of (mates_of bank_of bank (above + 1) rows) ≡ of_bank bank_of bank rows
-          → rows_of (cond b (numbered (above + 1) q ∷ mates_of bank_of bank (above + 1) rows) (mates_of bank_of bank (above + 1) rows))
-          ≡ cond b (q ∷ of_bank bank_of bank rows) (of_bank bank_of bank rows)
-      by true h = ap (λ xs. q ∷ xs) h
-      by false h = h
-
-pub line_asked : {n : ℕ} (banks : List ℕ) (line : ℕ) (asks : Asks n) → IsWriteOf line asks → IsOfLines (length banks) asks → line < length banks
-line_asked banks line (Reads at) of lt = absurd of
-line_asked banks line (Writes at bytes given) of lt = subst (λ k. k < length banks) (sym of) lt
-line_asked banks line Cuts of lt = absurd of
 
 module _ {n : ℕ} (rules : Rules) (banks : List ℕ) (before after : List (Row n)) (row : ℕ) (rule : Rule) where
   -- whether a row finds room
@@ -65,13 +25,13 @@ module _ {n : ℕ} (rules : Rules) (banks : List ℕ) (before after : List (Row 
       → holds rules banks clause.Room (reverse before) one after ≡ is_room crowd
   room_found one crowd may told = room_law n rules banks (reverse before) one after crowd may.had may.own told
 
-  of_read : (tick line : ℕ) (o : Outcome n) (c : Clause) (crowd : Option (Crowd n)) (room : Bool) (g : Grounds n) (near stale : Option RowAt)
+  of_read : RightReadLaw → (tick line : ℕ) (o : Outcome n) (c : Clause) (crowd : Option (Crowd n)) (room : Bool) (g : Grounds n) (near stale : Option RowAt)
       → MayTell rules banks before (a_read tick line o) after rule → TellsRoom rules banks tick (reverse before) crowd → room ≡ is_room crowd
       → TellsRead rules banks tick line before after g → c ≡ read_clause rules tick (grounds_of g) room o rule
       → near ≡ first_at (is_near rules.read_ticks o) (mates_of (bank_in banks) (bank_in banks line) 0 before) → stale ≡ stale_of line o (reverse before)
       → TellsOne rules banks before (a_read tick line o) after row rule
       (record { row = row; rule = rule; clause = c; crowd = crowd; finds = finds.Read g; near = near; counts = None; stale = stale })
-  of_read tick line o c crowd room g near stale may told free tells is near_is stale_is =
+  of_read law tick line o c crowd room g near stale may told free tells is near_is stale_is =
       let one : Row n = a_read tick line o in (
         refl,
         (
@@ -86,21 +46,22 @@ module _ {n : ℕ} (rules : Rules) (banks : List ℕ) (before after : List (Row 
             near_is = near_is;
             counts_are = refl;
             stale_is = stale_is;
+            right = read_right rules banks before after tick o rule law line g crowd may told tells;
           },
         ),
       )
 
-  pub read_tells : (one : Row n) (line : ℕ) (c : Clause) (crowd : Option (Crowd n)) (room : Bool) (g : Grounds n) (near stale : Option RowAt) → one.asks ≡ Reads line
+  pub read_tells : RightReadLaw → (one : Row n) (line : ℕ) (c : Clause) (crowd : Option (Crowd n)) (room : Bool) (g : Grounds n) (near stale : Option RowAt) → one.asks ≡ Reads line
       → MayTell rules banks before one after rule → TellsRoom rules banks one.tick (reverse before) crowd → room ≡ is_room crowd
       → TellsRead rules banks one.tick line before after g → c ≡ read_clause rules one.tick (grounds_of g) room one.outcome rule
       → near ≡ first_at (is_near rules.read_ticks one.outcome) (mates_of (bank_in banks) (bank_in banks line) 0 before) → stale ≡ stale_of line one.outcome (reverse before)
       → TellsOne rules banks before one after row rule
       (record { row = row; rule = rule; clause = c; crowd = crowd; finds = finds.Read g; near = near; counts = None; stale = stale })
-  read_tells one line c crowd room g near stale asks may told free tells is near_is stale_is =
+  read_tells law one line c crowd room g near stale asks may told free tells is near_is stale_is =
       let same : one ≡ a_read one.tick line one.outcome = ap (λ a. a_row one.tick a one.outcome) asks in
       subst (λ (q : Row n). TellsOne rules banks before q after row rule (record { row = row; rule = rule; clause = c; crowd = crowd; finds = finds.Read g; near = near; counts = None; stale = stale }))
       (sym same)
-      (of_read one.tick line one.outcome c crowd room g near stale (subst (λ (q : Row n). MayTell rules banks before q after rule) same may) told free tells is near_is stale_is)
+      (of_read law one.tick line one.outcome c crowd room g near stale (subst (λ (q : Row n). MayTell rules banks before q after rule) same may) told free tells is near_is stale_is)
 
   late_is : (tick line : ℕ) (bytes : List ℕ) (given : List Bool) (o : Outcome n) (counts : Option StoreCounts) → TellsCounts rules banks tick line (reverse before) after o counts
       → (u place : ℕ) → o ≡ out.Stored u place → nat_lt tick u ≡ true
@@ -108,7 +69,7 @@ module _ {n : ℕ} (rules : Rules) (banks : List ℕ) (before after : List (Row 
   late_is tick line bytes given o None told u place is lt = absurd (told u place is lt)
   late_is tick line bytes given o (Some k) told u place is lt = (told u place bytes given is).latest_is
 
-  of_write : (tick line : ℕ) (bytes : List ℕ) (given : List Bool) (o : Outcome n) (c : Clause) (crowd : Option (Crowd n)) (room worn : Bool) (late : ℕ) (g : WriteGrounds n)
+  of_write : RightWriteLaw → (tick line : ℕ) (bytes : List ℕ) (given : List Bool) (o : Outcome n) (c : Clause) (crowd : Option (Crowd n)) (room worn : Bool) (late : ℕ) (g : WriteGrounds n)
       (near : Option RowAt) (counts : Option StoreCounts)
       → MayTell rules banks before (a_write tick line bytes given o) after rule → TellsRoom rules banks tick (reverse before) crowd → room ≡ is_room crowd
       → TellsWrite rules banks tick line before after g → worn ≡ is_some_row g.worn_before → late ≡ late_of counts → TellsCounts rules banks tick line (reverse before) after o counts
@@ -116,7 +77,7 @@ module _ {n : ℕ} (rules : Rules) (banks : List ℕ) (before after : List (Row 
       → near ≡ first_at (is_near rules.read_ticks o) (mates_of (bank_in banks) (bank_in banks line) 0 before)
       → TellsOne rules banks before (a_write tick line bytes given o) after row rule
       (record { row = row; rule = rule; clause = c; crowd = crowd; finds = finds.Write g; near = near; counts = counts; stale = None })
-  of_write tick line bytes given o c crowd room worn late g near counts may told free tells w l k is near_is =
+  of_write law tick line bytes given o c crowd room worn late g near counts may told free tells w l k is near_is =
       let one : Row n = a_write tick line bytes given o in
       let past = beside banks line (reverse before) in
       let ps = pending tick [] past in
@@ -141,11 +102,12 @@ module _ {n : ℕ} (rules : Rules) (banks : List ℕ) (before after : List (Row 
             near_is = near_is;
             counts_are = k;
             stale_is = refl;
+            right = write_right rules banks before after tick o rule law line bytes given g crowd may told tells;
           },
         ),
       )
 
-  pub write_tells : (one : Row n) (line : ℕ) (c : Clause) (crowd : Option (Crowd n)) (room worn : Bool) (late : ℕ) (g : WriteGrounds n) (near : Option RowAt) (counts : Option StoreCounts)
+  pub write_tells : RightWriteLaw → (one : Row n) (line : ℕ) (c : Clause) (crowd : Option (Crowd n)) (room worn : Bool) (late : ℕ) (g : WriteGrounds n) (near : Option RowAt) (counts : Option StoreCounts)
       → IsWriteOf line one.asks
       → MayTell rules banks before one after rule → TellsRoom rules banks one.tick (reverse before) crowd → room ≡ is_room crowd
       → TellsWrite rules banks one.tick line before after g → worn ≡ is_some_row g.worn_before → late ≡ late_of counts
@@ -153,7 +115,7 @@ module _ {n : ℕ} (rules : Rules) (banks : List ℕ) (before after : List (Row 
       → near ≡ first_at (is_near rules.read_ticks one.outcome) (mates_of (bank_in banks) (bank_in banks line) 0 before)
       → TellsOne rules banks before one after row rule
       (record { row = row; rule = rule; clause = c; crowd = crowd; finds = finds.Write g; near = near; counts = counts; stale = None })
-  write_tells one line c crowd room worn late g near counts of may told free tells w l k is near_is =
+  write_tells law one line c crowd room worn late g near counts of may told free tells w l k is near_is =
       by one.asks of may
     where
       told_as : Explanation n
@@ -165,12 +127,12 @@ module _ {n : ℕ} (rules : Rules) (banks : List ℕ) (before after : List (Row 
       by Cuts of m = absurd of
       by (Writes at bytes given) of m =
           subst (λ j. TellsOne rules banks before (a_write one.tick j bytes given one.outcome) after row rule told_as) of
-          (of_write one.tick line bytes given one.outcome c crowd room worn late g near counts
+          (of_write law one.tick line bytes given one.outcome c crowd room worn late g near counts
           (subst (λ j. MayTell rules banks before (a_write one.tick j bytes given one.outcome) after rule) (sym of) m) told free tells w l k is near_is)
 
-  of_cut : (tick : ℕ) (o : Outcome n) (crowd : Option (Crowd n)) (e : Explanation n) → MayTell rules banks before (a_cut tick o) after rule
+  of_cut : RightCutLaw → (tick : ℕ) (o : Outcome n) (crowd : Option (Crowd n)) (e : Explanation n) → MayTell rules banks before (a_cut tick o) after rule
       → TellsRoom rules banks tick (reverse before) crowd → IsOfCut (a_cut tick o) row rule crowd e → TellsOne rules banks before (a_cut tick o) after row rule e
-  of_cut tick o crowd e may told is = (
+  of_cut law tick o crowd e may told is = (
     is.row_is,
     (
       is.rule_is,
@@ -181,6 +143,9 @@ module _ {n : ℕ} (rules : Rules) (banks : List ℕ) (before after : List (Row 
         near_is = is.near_is;
         counts_are = is.counts_are;
         stale_is = is.stale_is;
+        right =
+            subst (λ (f : Finds n). AreRight rules banks before (a_cut tick o) after (lines_of rules tick f e.crowd)) (sym is.finds_are)
+            (subst (λ c. AreRight rules banks before (a_cut tick o) after (lines_of rules tick finds.Cut c)) (sym is.crowd_is) (cut_right rules banks before after tick o rule law crowd may told));
       },
     ),
   )
@@ -188,12 +153,12 @@ module _ {n : ℕ} (rules : Rules) (banks : List ℕ) (before after : List (Row 
       cut_finds : Finds n → Type 0
       cut_finds f = TellsAsked rules banks before after tick Cuts f
 
-  pub cut_tells : (one : Row n) (crowd : Option (Crowd n)) (e : Explanation n) → one.asks ≡ Cuts → MayTell rules banks before one after rule
+  pub cut_tells : RightCutLaw → (one : Row n) (crowd : Option (Crowd n)) (e : Explanation n) → one.asks ≡ Cuts → MayTell rules banks before one after rule
       → TellsRoom rules banks one.tick (reverse before) crowd → IsOfCut one row rule crowd e → TellsOne rules banks before one after row rule e
-  cut_tells one crowd e asks may told is =
+  cut_tells law one crowd e asks may told is =
       let same : one ≡ a_cut one.tick one.outcome = ap (λ a. a_row one.tick a one.outcome) asks in
       subst (λ (q : Row n). TellsOne rules banks before q after row rule e) (sym same)
-      (of_cut one.tick one.outcome crowd e (subst (λ (q : Row n). MayTell rules banks before q after rule) same may) told (subst (λ (q : Row n). IsOfCut q row rule crowd e) same is))
+      (of_cut law one.tick one.outcome crowd e (subst (λ (q : Row n). MayTell rules banks before q after rule) same may) told (subst (λ (q : Row n). IsOfCut q row rule crowd e) same is))
 
 module _ {n : ℕ} (rules : Rules) (banks : List ℕ) (rows : List (Row n)) where
   -- what is told of a row between others is told of the one at its number

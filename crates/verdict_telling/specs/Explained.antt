@@ -1,13 +1,14 @@
 -- What is told of the lowest row that breaks a rule.
-use Rattle.std.specs.Prelude.{◌≡◌, ℕ, ◌+◌, ◌-◌, ◌<◌, ◌≤◌, ◌^◌, Bool, true, false, IsTrue, List, All, Option, Some, None, drop, length, reverse, slice_get, take}
+use Rattle.std.specs.{List.list_any, Prelude.{◌≡◌, ◌≢◌, ℕ, ◌+◌, ◌-◌, ◌<◌, ◌≤◌, ◌^◌, Bool, true, false, IsTrue, List, [], All, Option, Some, None, drop, length, reverse, slice_get, take}}
 use Rattle.result_rows.specs.declared.Outcome.{Outcome}
 use Rattle.result_rows.specs.declared.Outcome.TheVariants as out
 use Rattle.row_rules.specs.{Lines.IsOfLines, declared.Asks.Asks, declared.Asks.TheVariants.{Reads, Writes, Cuts}, declared.Row.Row, declared.Rules.Rules}
 use Rattle.check_judging.specs.Rising.{rising}
-use Rattle.check_verdict.specs.{Fitting.all_brief, Verdicts.{bank_in, keeps, verdict_of}, Within.AreWithin, declared.Rule.Rule, declared.Verdict.TheVariants.{Yes, No}}
+use Rattle.check_verdict.specs.{Fitting.all_brief, Judged.a_row, Verdicts.{bank_in, keeps, keeps_all, mates, verdict_of}, Within.AreWithin, declared.Rule.Rule}
+use Rattle.check_verdict.specs.declared.Verdict.TheVariants.{Yes, No}
 use Rattle.check_telling.specs.{Grounds.TellsRead, Standing.{first_at, mates_of}, WriteGrounds.TellsWrite, declared.facts.RowAt.RowAt, declared.facts.StoreCounts.StoreCounts}
 use Rattle.clause_telling.specs.{Broken.first_clause, ByFinds.cut_clause, Counts.TellsCounts, Others.{is_near, stale_at}, Rooms.{HadRoom, TellsRoom}, declared.room.Crowd.Crowd}
-use Rattle.verdict_telling.specs.{declared.row.Explanation.Explanation, declared.row.Finds.Finds}
+use Rattle.verdict_telling.specs.{Offers.{Offer, lines_of, offers}, declared.row.Explanation.Explanation, declared.row.Finds.Finds}
 use Rattle.verdict_telling.specs.declared.row.Finds.TheVariants as finds
 
 abbrev pub late_of : Option StoreCounts → ℕ
@@ -63,7 +64,20 @@ module _ {n : ℕ} (rules : Rules) (banks : List ℕ) (before : List (Row n)) wh
   stale_asked (Writes line bytes given) o = None
   stale_asked Cuts o = None
 
-  -- of a row that breaks a rule: the first clause of it, the bank that has no room, and all that the row finds
+  -- a row breaks no rule with an outcome in its own's place, where all others are as they are told
+  abbrev pub is_right : Row n → List (Row n) → Outcome n → Bool
+  is_right one after o = keeps_all rules banks (reverse before) (a_row one.tick one.asks o) after
+
+  -- one of these lines offers an outcome of it
+  abbrev pub is_offered : Row n → List (Row n) → List Offer → Outcome n → Bool
+  is_offered one after lines o = list_any (offers (mates banks one.asks (reverse before)) (mates banks one.asks after) o) lines
+
+  -- the lines of a row that is explained so tell exactly the outcomes that are right, and there are none exactly where no outcome is
+  pub record AreRight (one : Row n) (after : List (Row n)) (lines : List Offer) : Type 0 where
+    pub exact : (o : Outcome n) → is_right one after o ≡ is_offered one after lines o
+    pub some : lines ≢ [] → (o : Outcome n) × IsTrue (is_right one after o)
+
+  -- of a row that breaks a rule: the first clause of it, the bank that has no room, all that the row finds, and what would be right
   pub record TellsRow (one : Row n) (after : List (Row n)) (rule : Rule) (e : Explanation n) : Type 0 where
     pub clause_is : first_clause rules banks rule (reverse before) one after ≡ Some e.clause
     pub crowd_is : TellsRoom rules banks one.tick (reverse before) e.crowd
@@ -71,6 +85,7 @@ module _ {n : ℕ} (rules : Rules) (banks : List ℕ) (before : List (Row n)) wh
     pub near_is : e.near ≡ near_of one.asks one.outcome
     pub counts_are : TellsStored after one.tick one.asks one.outcome e.counts
     pub stale_is : e.stale ≡ stale_asked one.asks one.outcome
+    pub right : AreRight one after (lines_of rules one.tick e.finds e.crowd)
 
   abbrev pub TellsOne : Row n → List (Row n) → ℕ → Rule → Explanation n → Type 0
   TellsOne one after row rule e = (e.row ≡ row) × ((e.rule ≡ rule) × TellsRow one after rule e)

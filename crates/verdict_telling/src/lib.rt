@@ -6,9 +6,11 @@ ghost use Rattle.result_check.specs.Checkable.{IsCheckable};
 ghost use Rattle.trace_rows.specs.Rows as spec;
 ghost use Rattle.verdict_telling.specs.Explained.{Explains, IsTold, TellsOf};
 
+pub mod earned;
 pub mod row;
 
 pub use check_telling::Clause;
+pub use earned::find_unearned;
 pub use result_check::{Rule, Verdict, check};
 use result_rows::{Outcome, Results};
 use row::explain_one;

@@ -5,10 +5,10 @@ ghost use Rattle.row_rules.specs.declared.Asks.TheVariants.{Reads, Writes, Cuts}
 ghost use Rattle.clause_telling.specs.Rooms as rooms;
 ghost use Rattle.verdict_telling.specs.Explained as spec;
 
-use check_telling::Clause;
 use check_telling::facts::{RowAt, StoreCounts};
 use check_telling::grounds::{Grounds, find_grounds};
 use check_telling::writes::{WriteGrounds, find_write};
+use check_telling::{Clause, right_reads_are_told, right_writes_are_told};
 use clause_telling::clause::{cut_clause, read_clause, write_clause};
 use clause_telling::counts::find_counts;
 use clause_telling::others::{find_near, find_stale};
@@ -107,6 +107,7 @@ fn explain_read<const B: usize>(
     requires crowd { rooms.TellsRoom rules.now banks.now one.now.tick (reverse before.now) crowd }
     ensures { IfOk result (λ told. spec.TellsOne rules.now banks.now before.now one.now after.now row rule told) }
 {
+    right_reads_are_told();
     let found = find_grounds(alloc, before, after, banks, rules, one.tick, line)?;
     let clause = read_clause(rules, one.tick, &found, is_room(&crowd), &one.outcome, rule);
     let near = find_near(alloc, before, banks, rules.read_ticks, line, &one.outcome)?;
@@ -142,6 +143,7 @@ fn explain_write<const B: usize>(
     requires crowd { rooms.TellsRoom rules.now banks.now one.now.tick (reverse before.now) crowd }
     ensures { IfOk result (λ told. spec.TellsOne rules.now banks.now before.now one.now after.now row rule told) }
 {
+    right_writes_are_told();
     let found = find_write(alloc, before, after, banks, rules, one.tick, line)?;
     let counts = find_counts(
         alloc,
@@ -227,6 +229,9 @@ pub fn explain_one<const B: usize>(
                 alloc, before, one, after, banks, rules, *line, row, rule, crowd,
             )
         }
-        Asks::Cuts => Ok(explain_cut(one, row, rule, crowd)),
+        Asks::Cuts => {
+            right_writes_are_told();
+            Ok(explain_cut(one, row, rule, crowd))
+        }
     }
 }

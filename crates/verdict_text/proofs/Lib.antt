@@ -1,2 +1,3 @@
--- lemmas over sizes
+-- lemmas over sizes and lines
 mod Sizes
+mod Lines

@@ -6,8 +6,8 @@ use Rattle.row_rules.specs.declared.Rules.{Rules}
 use Rattle.check_telling.specs.declared.Clause.{Clause}
 use Rattle.check_telling.specs.declared.Clause.TheVariants as clause
 use Rattle.clause_telling.specs.declared.room.Crowd.{Crowd}
-use Rattle.verdict_telling.specs.{declared.row.Explanation.Explanation, declared.row.Finds.Finds, declared.row.Finds.TheVariants.{Read, Write, Cut}}
-use Rattle.verdict_text.specs.{ClauseWords.clause_words, ReadFacts.{own_on, read_facts_on}, RightReads.right_read_on, RightWrites.right_write_on, RoomFacts.crowd_on}
+use Rattle.verdict_telling.specs.{Offers.lines_of, declared.row.Explanation.Explanation, declared.row.Finds.Finds, declared.row.Finds.TheVariants.{Read, Write, Cut}}
+use Rattle.verdict_text.specs.{ClauseWords.clause_words, ReadFacts.{own_on, read_facts_on}, RightLines.right_on, RoomFacts.crowd_on}
 use Rattle.verdict_text.specs.{RowWords.{answer_on, asks_on}, WriteFacts.write_facts_on}
 
 -- the bank of a row's line; a cut is of no bank
@@ -30,15 +30,10 @@ module _ {n : ℕ} where
   abbrev pub row_on : List ℕ → Option ℕ → Event n → Outcome n → Clause → List ℕ
   row_on text bank event outcome broken = breaks_on (head_on text bank event outcome) broken
 
-  -- every answer that would be right: none where a bank holds more than it may
-  abbrev pub right_found_on : List ℕ → Rules → ℕ → Finds n → List ℕ
-  right_found_on text rules tick (Read g) = right_read_on g text tick
-  right_found_on text rules tick (Write w) = right_write_on w text tick rules.read_ticks
-  right_found_on text rules tick Cut = text ++ codes "  right  cut " ++ decimal tick ++ codes "\n"
-
-  abbrev pub right_on : List ℕ → Rules → ℕ → Finds n → Option (Crowd n) → List ℕ
-  right_on text rules tick finds None = right_found_on text rules tick finds
-  right_on text rules tick finds (Some crowd) = text ++ codes "  right  none: bank " ++ decimal crowd.bank ++ codes " has no room as it comes\n"
+  -- what is said of a row that is worn though its bank has accepted no write before it
+  abbrev pub unearned_on : List ℕ → Option ℕ → Event n → Outcome n → List ℕ
+  unearned_on text bank event outcome =
+      head_on text bank event outcome ++ codes "  breaks Earned: a worn row has an accepted write of its bank before it\n"
 
   -- what a bank holds that holds more than it may, if one does
   abbrev pub room_on : Rules → List (Event n) → List (Outcome n) → List ℕ → Option (Crowd n) → List ℕ
@@ -56,9 +51,9 @@ module _ {n : ℕ} where
     facts_on text clause.Room = room_on rules events outcomes text e.crowd
     facts_on text _ = found_on text e.finds
 
-    -- the same, and every answer that would be right
+    -- the same, and every outcome that would be right
     abbrev pub why_on : List ℕ → List ℕ
-    why_on text = right_on (facts_on text e.clause) rules tick e.finds e.crowd
+    why_on text = right_on (facts_on text e.clause) e.crowd (lines_of rules tick e.finds e.crowd)
 
   -- a row, its bank, and an explanation of it
   abbrev pub explained_on : List ℕ → Rules → List (Event n) → List (Outcome n) → Option ℕ → Event n → Outcome n → Explanation n → List ℕ

@@ -5,6 +5,5 @@ pub mod RowWords
 pub mod RoomFacts
 pub mod ReadFacts
 pub mod WriteFacts
-pub mod RightReads
-pub mod RightWrites
+pub mod RightLines
 pub mod Explained

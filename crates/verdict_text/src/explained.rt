@@ -1,6 +1,8 @@
 // An explanation as text, behind the line of its verdict.
 ghost use Rattle.std.specs.Prelude.{◌≡◌, ◌≤◌, IfOk, length};
+ghost use Rattle.verdict_telling.specs.Offers.{lines_found, lines_of};
 ghost use Rattle.verdict_text.specs.Explained as spec;
+ghost use Rattle.verdict_text.specs.RightLines.{lines_on, right_on};
 
 use crate::clauses::clause_words;
 use crate::read_facts::{say_own, say_read_facts};
@@ -69,7 +71,7 @@ fn say_right_found<const B: usize>(
 ) -> Result<(), AllocError>
     requires size { B ≤ 128 }
     ensures { IfOk result (λ _. text.new.items
-        ≡ spec.right_found_on text.old.items rules.now tick finds.now) }
+        ≡ lines_on text.old.items (lines_found rules.now tick finds.now)) }
 {
     match finds {
         Finds::Read(g) => say_right_read(text, g, tick),
@@ -91,7 +93,7 @@ fn say_right<const B: usize>(
 ) -> Result<(), AllocError>
     requires size { B ≤ 128 }
     ensures { IfOk result (λ _. text.new.items
-        ≡ spec.right_on text.old.items rules.now tick finds.now crowd.now) }
+        ≡ right_on text.old.items crowd.now (lines_of rules.now tick finds.now crowd.now)) }
 {
     match crowd {
         None => say_right_found(text, rules, tick, finds),
@@ -223,4 +225,23 @@ pub fn say_explanation<const B: usize>(
 {
     say_row(text, bank, event, outcome, e.clause)?;
     say_why(text, rules, events, results, event.tick, e)
+}
+
+/// Puts behind the line of a verdict that names a worn row whose bank, `bank`, has accepted no write before it what the row asked and
+/// was told, and that.
+pub fn say_unearned<const B: usize>(
+    text: &mut Vec<u8>,
+    bank: Option<u8>,
+    event: &Event<B>,
+    outcome: &Outcome<B>,
+) -> Result<(), AllocError>
+    requires size { B ≤ 128 }
+    ensures { IfOk result (λ _. text.new.items
+        ≡ spec.unearned_on text.old.items bank event.now outcome.now) }
+{
+    say_head(text, bank, event, outcome)?;
+    say(
+        text,
+        b"  breaks Earned: a worn row has an accepted write of its bank before it\n",
+    )
 }

@@ -11,4 +11,4 @@ mod rows;
 mod say;
 mod write_facts;
 
-pub use explained::say_explanation;
+pub use explained::{say_explanation, say_unearned};

@@ -1,6 +1,7 @@
-// Every answer that would be right for a read, a line each.
-ghost use Rattle.std.specs.Prelude.{◌≡◌, ◌≤◌, ◌++◌, ◌&&◌, codes, decimal, nat_le, if◌then◌else◌, IfOk};
-ghost use Rattle.verdict_text.specs.RightReads as spec;
+// What is told to be right for a read, a line each.
+ghost use Rattle.std.specs.Prelude.{◌≡◌, ◌≤◌, ◌+◌, ◌++◌, ◌&&◌, [], codes, decimal, nat_le, if◌then◌else◌, IfOk};
+ghost use Rattle.verdict_telling.specs.Offers as right;
+ghost use Rattle.verdict_text.specs.RightLines as spec;
 
 use crate::say::{say, say_hex, say_number};
 use check_telling::facts::RowAt;
@@ -9,7 +10,7 @@ use std::alloc::AllocError;
 
 // The last tick at which a read may be read: its bound, or the first cut.
 fn last_tick(by: u64, cut: Option<RowAt>) -> u64
-    ensures { result ≡ spec.last_tick by cut }
+    ensures { result ≡ right.last_tick by cut }
 {
     match cut {
         None => by,
@@ -49,31 +50,59 @@ fn say_but(text: &mut Vec<u8>, from: u64, to: u64, ticks: &[u64]) -> Result<(), 
     Ok(())
 }
 
-// A read that is lost at a cut.
-fn say_lost(text: &mut Vec<u8>, cut: Option<RowAt>) -> Result<(), AllocError>
-    ensures { IfOk result (λ _. text.new.items ≡ spec.lost_on text.old.items cut) }
+// Whether a tick is none of these.
+fn is_none_of(tick: u64, ticks: &[u64]) -> bool
+    ensures { result ≡ right.is_none_of tick ticks.now }
 {
-    match cut {
-        None => Ok(()),
-        Some(cut) => {
-            say_number(text, b"  right  lost ", cut.tick)?;
-            say(text, b"\n")
+    for other in ticks {
+        if tick == *other {
+            return false;
         }
     }
+    true
+}
+
+// Whether it is one from a tick to another, and none of these.
+fn is_within(from: u64, to: u64, taken: &[u64], tick: u64) -> bool
+    ensures { result ≡ right.is_within from to taken.now tick }
+{
+    from <= tick && tick <= to && is_none_of(tick, taken)
+}
+
+// The same of the one behind it.
+fn is_next_within(from: u64, to: u64, taken: &[u64], tick: u64) -> bool
+    ensures { result ≡ right.is_within from to taken.now (tick + 1) }
+{
+    tick < to && is_within(from, to, taken, tick + 1)
+}
+
+// Whether some tick from one to another is none of these.
+fn has_free(from: u64, to: u64, taken: &[u64]) -> bool
+    ensures { result ≡ right.has_free from to taken.now }
+{
+    if is_within(from, to, taken, from) {
+        return true;
+    }
+    for tick in taken {
+        if is_next_within(from, to, taken, *tick) {
+            return true;
+        }
+    }
+    false
 }
 
 // Whether the read has to wait, and may.
 fn may_wait<const B: usize>(g: &Grounds<B>) -> bool
-    ensures { result ≡ spec.may_wait g.now }
+    ensures { result ≡ right.may_wait g.now }
 {
     !g.covered && !g.full
 }
 
 // Whether it is right that it is read, lost, busy or forwarded.
 fn can_read<const B: usize>(g: &Grounds<B>) -> bool
-    ensures { result ≡ spec.can_read g.now }
+    ensures { result ≡ right.can_read g.now }
 {
-    may_wait(g) && g.from <= last_tick(g.by, g.cut)
+    may_wait(g) && has_free(g.from, last_tick(g.by, g.cut), &g.taken)
 }
 
 fn can_lose<const B: usize>(g: &Grounds<B>) -> bool
@@ -83,13 +112,13 @@ fn can_lose<const B: usize>(g: &Grounds<B>) -> bool
 }
 
 fn can_refuse<const B: usize>(g: &Grounds<B>) -> bool
-    ensures { result ≡ spec.can_refuse g.now }
+    ensures { result ≡ right.can_refuse g.now }
 {
     !g.covered && g.full
 }
 
 fn can_forward<const B: usize>(g: &Grounds<B>) -> bool
-    ensures { result ≡ spec.can_forward g.now }
+    ensures { result ≡ right.can_forward g.now }
 {
     g.covered || g.at_head
 }
@@ -114,7 +143,8 @@ fn say_span(text: &mut Vec<u8>, from: u64, to: u64) -> Result<(), AllocError>
 // Read, between two ticks but at some.
 fn say_read<const B: usize>(text: &mut Vec<u8>, g: &Grounds<B>) -> Result<(), AllocError>
     requires size { B ≤ 128 }
-    ensures { IfOk result (λ _. text.new.items ≡ spec.read_on g.now text.old.items) }
+    ensures { IfOk result (λ _. text.new.items
+        ≡ spec.offer_on text.old.items (right.read_line g.now)) }
 {
     let to = last_tick(g.by, g.cut);
     say_span(text, g.from, to)?;
@@ -125,21 +155,22 @@ fn say_read<const B: usize>(text: &mut Vec<u8>, g: &Grounds<B>) -> Result<(), Al
 // Forwarded, as it comes.
 fn say_forward<const B: usize>(
     text: &mut Vec<u8>,
-    g: &Grounds<B>,
+    bytes: &[u8; B],
     tick: u64,
 ) -> Result<(), AllocError>
     requires size { B ≤ 128 }
-    ensures { IfOk result (λ _. text.new.items ≡ spec.forward_on g.now text.old.items tick) }
+    ensures { IfOk result (λ _. text.new.items
+        ≡ spec.offer_on text.old.items (right.Forwarded tick bytes.now)) }
 {
     say_number(text, b"  right  forwarded ", tick)?;
-    say_data_end(text, &g.newest.bytes)
+    say_data_end(text, bytes)
 }
 
 // The line of each that is right, or nothing.
 fn say_if_read<const B: usize>(text: &mut Vec<u8>, g: &Grounds<B>) -> Result<(), AllocError>
     requires size { B ≤ 128 }
-    ensures { IfOk result (λ _. text.new.items ≡ (if spec.can_read g.now
-        then spec.read_on g.now text.old.items else text.old.items)) }
+    ensures { IfOk result (λ _. text.new.items ≡ spec.offers_on text.old.items
+        (right.line_if (right.can_read g.now) (right.read_line g.now) [])) }
 {
     if can_read(g) {
         say_read(text, g)
@@ -149,13 +180,15 @@ fn say_if_read<const B: usize>(text: &mut Vec<u8>, g: &Grounds<B>) -> Result<(),
 }
 
 fn say_if_lost<const B: usize>(text: &mut Vec<u8>, g: &Grounds<B>) -> Result<(), AllocError>
-    ensures { IfOk result (λ _. text.new.items ≡ (if spec.can_lose g.now
-        then spec.lost_on text.old.items g.now.cut else text.old.items)) }
+    ensures { IfOk result (λ _. text.new.items ≡ spec.offers_on text.old.items
+        (right.lost_line g.now g.now.cut [])) }
 {
-    if can_lose(g) {
-        say_lost(text, g.cut)
-    } else {
-        Ok(())
+    match g.cut {
+        Some(cut) if may_wait(g) && cut.tick < g.by => {
+            say_number(text, b"  right  lost ", cut.tick)?;
+            say(text, b"\n")
+        }
+        _ => Ok(()),
     }
 }
 
@@ -164,9 +197,8 @@ fn say_if_busy<const B: usize>(
     g: &Grounds<B>,
     tick: u64,
 ) -> Result<(), AllocError>
-    ensures { IfOk result (λ _. text.new.items ≡ (if spec.can_refuse g.now
-        then text.old.items ++ codes "  right  busy " ++ decimal tick ++ codes "\n"
-        else text.old.items)) }
+    ensures { IfOk result (λ _. text.new.items ≡ spec.offers_on text.old.items
+        (right.line_if (right.can_refuse g.now) (right.Busy tick) [])) }
 {
     if !can_refuse(g) {
         return Ok(());
@@ -181,11 +213,11 @@ fn say_if_forwarded<const B: usize>(
     tick: u64,
 ) -> Result<(), AllocError>
     requires size { B ≤ 128 }
-    ensures { IfOk result (λ _. text.new.items ≡ (if spec.can_forward g.now
-        then spec.forward_on g.now text.old.items tick else text.old.items)) }
+    ensures { IfOk result (λ _. text.new.items ≡ spec.offers_on text.old.items
+        (right.line_if (right.can_forward g.now) (right.Forwarded tick g.now.newest.bytes) [])) }
 {
     if can_forward(g) {
-        say_forward(text, g, tick)
+        say_forward(text, &g.newest.bytes, tick)
     } else {
         Ok(())
     }
@@ -199,7 +231,7 @@ fn say_found<const B: usize>(
 ) -> Result<(), AllocError>
     requires size { B ≤ 128 }
     ensures { IfOk result (λ _. text.new.items
-        ≡ spec.coming_on g.now (spec.waiting_on g.now text.old.items) tick) }
+        ≡ spec.offers_on text.old.items (right.read_lines g.now tick)) }
 {
     say_if_read(text, g)?;
     say_if_lost(text, g)?;
@@ -207,17 +239,24 @@ fn say_found<const B: usize>(
     say_if_forwarded(text, g, tick)
 }
 
-/// Every answer that would be right, or that none is.
+// Whether there is one.
+fn has_line<const B: usize>(g: &Grounds<B>) -> bool
+    ensures { result ≡ spec.some_line g.now }
+{
+    can_read(g) || (can_lose(g) || (can_refuse(g) || can_forward(g)))
+}
+
+/// The lines of a read that comes at a tick, or that there are none.
 pub fn say_right_read<const B: usize>(
     text: &mut Vec<u8>,
     g: &Grounds<B>,
     tick: u64,
 ) -> Result<(), AllocError>
     requires size { B ≤ 128 }
-    ensures { IfOk result (λ _. text.new.items ≡ spec.right_read_on g.now text.old.items tick) }
+    ensures { IfOk result (λ _. text.new.items
+        ≡ spec.lines_on text.old.items (right.read_lines g.now tick)) }
 {
-    let some = can_read(g) || (can_lose(g) || (can_refuse(g) || can_forward(g)));
-    if some {
+    if has_line(g) {
         say_found(text, g, tick)
     } else {
         say(text, b"  right  none\n")

@@ -1,6 +1,8 @@
-// Every answer that would be right for a write, a line each.
-ghost use Rattle.std.specs.Prelude.{◌≡◌, ◌++◌, ◌&&◌, codes, decimal, if◌then◌else◌, IfOk};
-ghost use Rattle.verdict_text.specs.RightWrites as spec;
+// What is told to be right for a write, a line each.
+ghost use Rattle.std.specs.Prelude.{◌≡◌, ◌++◌, ◌&&◌, [], ◌∷◌, None, IfOk, option_to_list};
+ghost use Rattle.check_telling.specs.Standing.{tick_at};
+ghost use Rattle.verdict_telling.specs.Offers as right;
+ghost use Rattle.verdict_text.specs.RightLines as spec;
 
 use crate::say::{say, say_number};
 use check_telling::facts::{RowAt, StoreBound};
@@ -32,7 +34,7 @@ fn say_bound(text: &mut Vec<u8>, tick: u64, bound: StoreBound) -> Result<(), All
 
 // Before the first worn row.
 fn say_below(text: &mut Vec<u8>, worn: Option<RowAt>) -> Result<(), AllocError>
-    ensures { IfOk result (λ _. text.new.items ≡ spec.below_on text.old.items worn) }
+    ensures { IfOk result (λ _. text.new.items ≡ spec.below_on text.old.items (tick_at worn)) }
 {
     match worn {
         None => Ok(()),
@@ -42,7 +44,7 @@ fn say_below(text: &mut Vec<u8>, worn: Option<RowAt>) -> Result<(), AllocError>
 
 // As far from these stores as a read takes.
 fn say_stores(text: &mut Vec<u8>, read: u64, ticks: &[u64]) -> Result<(), AllocError>
-    ensures { IfOk result (λ _. text.new.items ≡ spec.apart_on text.old.items read None ticks.now) }
+    ensures { IfOk result (λ _. text.new.items ≡ spec.apart_on text.old.items read ticks.now) }
 {
     if ticks.is_empty() {
         return Ok(());
@@ -59,13 +61,15 @@ fn say_apart(
     last: Option<u64>,
     ticks: &[u64],
 ) -> Result<(), AllocError>
-    ensures { IfOk result (λ _. text.new.items ≡ spec.apart_on text.old.items read last ticks.now) }
+    ensures { IfOk result (λ _. text.new.items
+        ≡ spec.apart_on text.old.items read (option_to_list last ++ ticks.now)) }
 {
     match last {
         None => say_stores(text, read, ticks),
         Some(last) => {
             say_number(text, b", ", read)?;
-            say_number(text, b" apart from ", last)?;
+            say(text, b" apart from")?;
+            say_number(text, b" ", last)?;
             say_ticks(text, ticks)
         }
     }
@@ -84,7 +88,8 @@ fn say_not(text: &mut Vec<u8>, ticks: &[u64]) -> Result<(), AllocError>
 
 // Merged, at the tick of the next accepted write of the line.
 fn say_merged(text: &mut Vec<u8>, next: Option<RowAt>) -> Result<(), AllocError>
-    ensures { IfOk result (λ _. text.new.items ≡ spec.merged_on text.old.items next) }
+    ensures { IfOk result (λ _. text.new.items
+        ≡ spec.offers_on text.old.items (right.merged_line next [])) }
 {
     match next {
         None => Ok(()),
@@ -102,7 +107,8 @@ fn say_stored<const B: usize>(
     tick: u64,
     read: u64,
 ) -> Result<(), AllocError>
-    ensures { IfOk result (λ _. text.new.items ≡ spec.stored_on w.now text.old.items tick read) }
+    ensures { IfOk result (λ _. text.new.items
+        ≡ spec.stored_on text.old.items (right.stored_line w.now tick read)) }
 {
     say_bound(text, tick, w.bound)?;
     say_below(text, w.worn_behind)?;
@@ -117,9 +123,8 @@ fn say_if_full<const B: usize>(
     w: &WriteGrounds<B>,
     tick: u64,
 ) -> Result<(), AllocError>
-    ensures { IfOk result (λ _. text.new.items ≡ (if w.now.full && w.now.alone
-        then text.old.items ++ codes "  right  full " ++ decimal tick ++ codes "\n"
-        else text.old.items)) }
+    ensures { IfOk result (λ _. text.new.items ≡ spec.offers_on text.old.items
+        (right.line_if (w.now.full && w.now.alone) (right.Full tick) [])) }
 {
     if !(w.full && w.alone) {
         return Ok(());
@@ -135,7 +140,8 @@ fn say_taken<const B: usize>(
     tick: u64,
     read: u64,
 ) -> Result<(), AllocError>
-    ensures { IfOk result (λ _. text.new.items ≡ spec.taken_on w.now text.old.items tick read) }
+    ensures { IfOk result (λ _. text.new.items
+        ≡ spec.offers_on text.old.items (right.unless_worn w.now tick read None [])) }
 {
     say_stored(text, w, tick, read)?;
     say_merged(text, w.next)?;
@@ -152,7 +158,7 @@ fn say_unless_worn<const B: usize>(
     read: u64,
 ) -> Result<(), AllocError>
     ensures { IfOk result (λ _. text.new.items
-        ≡ spec.unless_worn w.now text.old.items tick read w.now.worn_before) }
+        ≡ spec.offers_on text.old.items (right.unless_worn w.now tick read w.now.worn_before [])) }
 {
     match w.worn_before {
         None => say_taken(text, w, tick, read),
@@ -160,7 +166,7 @@ fn say_unless_worn<const B: usize>(
     }
 }
 
-/// Every answer that would be right.
+/// The lines of a write that comes at a tick, where a read takes so long.
 pub fn say_right_write<const B: usize>(
     text: &mut Vec<u8>,
     w: &WriteGrounds<B>,
@@ -168,7 +174,7 @@ pub fn say_right_write<const B: usize>(
     read: u64,
 ) -> Result<(), AllocError>
     ensures { IfOk result (λ _. text.new.items
-        ≡ spec.right_write_on w.now text.old.items tick read) }
+        ≡ spec.lines_on text.old.items (right.write_lines w.now tick read)) }
 {
     say_unless_worn(text, w, tick, read)?;
     say_number(text, b"  right  worn ", tick)?;

@@ -1,6 +1,6 @@
 use Rattle.std.proofs.Common.{◌≢◌, ◌≤◌, inl, inr, refl, ap, arith, rules, Err}
 use Rattle.pcm_top.{specs.declared.fault.Fault.TheVariants.Write, proofs.Deciding.{done-low, is_write, told-decided}}
-use Rattle.explain_top.proofs.Deciding.{done-decided}
+use Rattle.explain_top.proofs.Deciding.{done-decided, fault-decided}
 use Rattle.explain_top.proofs.program.explain_run.Goals as goal
 
 pub returns-in-Ok : goal.returns-in-Ok
@@ -50,5 +50,5 @@ returns-in-Err g c =
             | inr other ↦ tells (c.give_up.ensures.broken five other)
           ] in
           let other : fault ≢ Write = λ write. whole (c.give_up.ensures.write write) in
-          told-decided _ _ bytes fault _ told calm (c.in-Err.ensures.ends.ends.cause other) (c.give_up.ensures.told whole).0;
+          fault-decided _ bytes _ (told-decided _ _ bytes fault _ told calm (c.in-Err.ensures.ends.ends.cause other) (c.give_up.ensures.told whole).0);
     }

@@ -1,4 +1,4 @@
-use Rattle.std.proofs.Common.{◌≡◌, ◌-◌, Some, length, refl, sym}
+use Rattle.std.proofs.Common.{◌≡◌, ◌-◌, Some, length, refl}
 use Rattle.std.{specs.Prelude.slice_get, proofs.lemmas.Option.slice_get_read}
 use Rattle.explain_top.proofs.{Rows.{has_row, index_below, index_most, row_within, says_row}, Sizes.{outcome_fits, results_fit}}
 use Rattle.explain_top.proofs.text.say_row.Goals as goal
@@ -33,9 +33,8 @@ returns g c =
     let events = c.args.events.now in
     let event = c.index-events-row.result in
     let within = row_within c.args.rules.now c.args.banks.now events c.args.results.now row c.args.told.now.rule c.requires.one_each c.requires.tells.0 in
-    let at : slice_get events (row - 1) ≡ Some event = slice_get_read events (length events) (row - 1) event refl (index_below row (length events) within) c.index-events-row.is in
-    record {
-      is = sym c.requires.tells.0;
-      says = says_row c.args.rules.now c.args.banks.now events c.args.results.now row c.args.told.now.rule event c.get-outcome.result.now c.args.told.now c.in_ok-text.text.items _ c.bank_asked-bank.result
-          at c.get-outcome.ensures c.requires.tells.1 c.in_ok-text.ensures c.bank_asked-bank.ensures c.in_ok-say_explanation.ensures;
-    }
+    let at : slice_get events (row - 1) ≡ Some event = slice_get_read events (length events) (row - 1) event refl (index_below row (length events) within) c.index-events-row.is in (
+      refl,
+      says_row c.args.rules.now c.args.banks.now events c.args.results.now row c.args.told.now.rule event c.get-outcome.result.now c.args.told.now c.in_ok-text.text.items _ c.bank_asked-bank.result
+          at c.get-outcome.ensures c.requires.tells.1 c.in_ok-text.ensures c.bank_asked-bank.ensures c.in_ok-say_explanation.ensures,
+    )

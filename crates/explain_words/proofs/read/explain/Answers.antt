@@ -1,7 +1,14 @@
-use Rattle.std.proofs.Common.{refl, sym, ◌∙◌}
+use Rattle.std.proofs.Common.{◌≡◌, Bool, Some, ap, sym, ◌∙◌}
+use Rattle.command_line.specs.declared.job.CheckJob.{CheckJob}
 use Rattle.command_line.proofs.Steps.{some_step, none_step}
-use Rattle.explain_words.specs.Jobs.{explain_of}
+use Rattle.explain_words.specs.{Jobs.explain_of, declared.job.ExplainJob.ExplainJob}
 use Rattle.explain_words.proofs.read.explain.Goals as goal
+
+abbrev job_with : CheckJob → Bool → ExplainJob
+job_with check strict = record { check = check; strict = strict }
+
+made : (check : CheckJob) (one other : Bool) → one ≡ other → Some (job_with check one) ≡ Some (job_with check other)
+made check one other e = ap (λ strict. Some (job_with check strict)) e
 
 pub returns-in_err-line-clause-exact : goal.returns-in_err-line-clause-exact
 unfolding explain_of
@@ -23,4 +30,4 @@ unfolding explain_of
 returns-clause-exact c = (sym (some_step _ _ _ _ (sym c.in_ok-line.ensures)
     (some_step _ _ _ _ (sym c.in_ok-shape.ensures.exact)
     (some_step _ _ _ _ (sym c.in_ok-seed.ensures)
-    refl))))
+    (made (record { line = c.in_ok-line.line; shape = c.in_ok-shape.shape; seed = c.in_ok-seed.seed }) _ _ (sym c.strict-strict.ensures))))))

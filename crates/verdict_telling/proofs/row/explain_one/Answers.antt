@@ -29,5 +29,5 @@ explain_cut-requires g c = (row_fits g.row.B c.requires.small, (crowd_fits, expl
 
 pub returns-in-Cuts : goal.returns-in-Cuts
 returns-in-Cuts g c =
-    cut_tells c.args.rules.now c.args.banks.now c.args.before.now c.args.after.now c.args.row c.args.rule c.args.one.now c.in_ok-crowd.crowd c.explain_cut.result c.in-Cuts.is
+    cut_tells c.args.rules.now c.args.banks.now c.args.before.now c.args.after.now c.args.row c.args.rule c.right_writes_are_told.ensures.cut c.args.one.now c.in_ok-crowd.crowd c.explain_cut.result c.in-Cuts.is
     c.requires.may c.in_ok-crowd.ensures c.explain_cut.ensures

@@ -16,7 +16,7 @@ find_grounds-requires g c =
 
 pub returns : goal.returns
 returns g c =
-    read_tells c.args.rules.now c.args.banks.now c.args.before.now c.args.after.now c.args.row c.args.rule c.args.one.now c.args.line c.read_clause-clause.result c.args.crowd
+    read_tells c.args.rules.now c.args.banks.now c.args.before.now c.args.after.now c.args.row c.args.rule c.right_reads_are_told.ensures c.args.one.now c.args.line c.read_clause-clause.result c.args.crowd
     c.is_room.result c.in_ok-found.found c.in_ok-near.near c.stale_of-stale.result c.requires.asks c.requires.may c.requires.crowd c.is_room.ensures c.in_ok-found.ensures
     c.read_clause-clause.ensures c.in_ok-near.ensures c.stale_of-stale.ensures
 

@@ -1,6 +1,6 @@
 use Rattle.std.proofs.Common.{arith}
 use Rattle.check_telling.proofs.Sizes.{row_fits}
-use Rattle.verdict_telling.proofs.{Sizes.outcome_fits, Telling.{line_asked, write_tells}}
+use Rattle.verdict_telling.proofs.{Banks.line_asked, Sizes.outcome_fits, Telling.write_tells}
 use Rattle.verdict_telling.proofs.row.explain_write.Goals as goal
 
 pub find_write-requires : goal.find_write-requires
@@ -32,6 +32,6 @@ find_near-requires g c =
 
 pub returns : goal.returns
 returns g c =
-    write_tells c.args.rules.now c.args.banks.now c.args.before.now c.args.after.now c.args.row c.args.rule c.args.one.now c.args.line c.write_clause-clause.result c.args.crowd
+    write_tells c.args.rules.now c.args.banks.now c.args.before.now c.args.after.now c.args.row c.args.rule c.right_writes_are_told.ensures.write c.args.one.now c.args.line c.write_clause-clause.result c.args.crowd
     c.is_room-room.result c.is_told-worn.result c.late_of-late.result c.in_ok-found.found c.in_ok-near.near c.in_ok-counts.counts c.requires.asks c.requires.may c.requires.crowd
     c.is_room-room.ensures c.in_ok-found.ensures c.is_told-worn.ensures c.late_of-late.ensures c.in_ok-counts.ensures c.write_clause-clause.ensures c.in_ok-near.ensures

@@ -1,5 +1,5 @@
 use Rattle.std.proofs.Common.{◌≡◌, drop}
-use Rattle.verdict_text.specs.RightReads.{but_on}
+use Rattle.verdict_text.specs.RightLines.{but_on}
 use Rattle.verdict_text.proofs.right_reads.say_but.Given as goal
 
 -- those of the ticks so far are said

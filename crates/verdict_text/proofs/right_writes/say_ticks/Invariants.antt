@@ -1,5 +1,5 @@
 use Rattle.std.proofs.Common.{◌≡◌, drop}
-use Rattle.verdict_text.specs.RightWrites.{ticks_on}
+use Rattle.verdict_text.specs.RightLines.{ticks_on}
 use Rattle.verdict_text.proofs.right_writes.say_ticks.Given as goal
 
 -- the ticks so far are said
