@@ -6,9 +6,8 @@ use Rattle.explain_words.specs.declared.job.ExplainJob.{ExplainJob}
 use Rattle.row_rules.specs.declared.Row.{Row}
 use Rattle.check_verdict.specs.{declared.Verdict.Verdict, declared.Verdict.TheVariants.{Yes, No}}
 use Rattle.program_calls.specs.Calls.{SinkChange, SourceChange}
-use Rattle.pcm_top.specs.{Checking.{done_on, pointers_in, room_line}, Jobs.bytes_in, Running.{reads_source, status_done}, Statuses.{IsCheckStatus, IsStatusFor}, declared.run.Done.Done}
-use Rattle.pcm_top.specs.declared.run.Done.TheVariants.{Whole, Short}
-use Rattle.pcm_top.proofs.Deciding.{by-text, reads-told}
+use Rattle.pcm_top.specs.{Checking.{done_on, pointers_in, room_line}, Jobs.bytes_in, Running.{reads_source, status_done}, Statuses.{IsCheckStatus, IsStatusFor}}
+use Rattle.pcm_top.{specs.declared.run.Done.Done, specs.declared.run.Done.TheVariants.{Whole, Short}, proofs.Deciding.{by-text, reads-told}}
 use Rattle.right_runs.specs.Banks.{banks_of}
 use Rattle.trace_rows.specs.Rows.{rows_with}
 use Rattle.verdict_telling.specs.Earned.{unearned}

@@ -5,7 +5,8 @@ use Rattle.trace_reader.specs.declared.event.Event.{Event}
 use Rattle.trace_rows.specs.Rows.{rows_with}
 use Rattle.result_rows.specs.{Table.{HasRow, outcome_at}, declared.Outcome.Outcome}
 use Rattle.row_rules.specs.declared.Rules.{Rules}
-use Rattle.check_verdict.{specs.Verdicts.verdict_of, specs.declared.Rule.Rule, specs.declared.Rule.TheVariants.Worn, specs.declared.Verdict.Verdict, specs.declared.Verdict.TheVariants.{Yes, No}, proofs.Lowest.verdict_law}
+use Rattle.check_verdict.specs.{Verdicts.verdict_of, declared.Rule.Rule, declared.Rule.TheVariants.Worn, declared.Verdict.Verdict, declared.Verdict.TheVariants.{Yes, No}}
+use Rattle.check_verdict.proofs.Lowest.{verdict_law}
 use Rattle.check_text.specs.VerdictText.{verdict_text}
 use Rattle.verdict_telling.specs.{Explained.TellsOf, declared.row.Explanation.Explanation}
 use Rattle.verdict_text.specs.Explained.{explained_on, unearned_on}

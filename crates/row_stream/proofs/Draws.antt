@@ -11,7 +11,7 @@ use Rattle.trace_gen.specs.{Generated.{IsLongMix, generated}, Laws.IsGenerated, 
 use Rattle.trace_stream.specs.{Asked.events_in, Laws.all_events, declared.asked.Asked.Asked, declared.asked.Asked.TheVariants.Happens}
 use Rattle.feistel_map.specs.{Log2.log2, Network.{Network, network_of}}
 use Rattle.right_runs.specs.Banks.{bank_of_line}
-use Rattle.drawn_parts.{specs.{Parts.drawn_for, declared.Banks.Banks}, proofs.Picking.{for-few, lawful-for}}
+use Rattle.drawn_parts.{specs.Parts.drawn_for, specs.declared.Banks.Banks, proofs.Picking.{for-few, lawful-for}}
 use Rattle.row_stream.specs.{Asking.{behind_of, behind_op}, Refusing.WentOn, Serving.{IsServing, told_before, told_so_far}, declared.stop.Behind.Behind}
 use Rattle.row_stream.{specs.declared.stop.Behind.TheVariants.Nothing, proofs.Refusals.{went-first, went-on}}
 

@@ -13,7 +13,8 @@ use Rattle.pcm_module.proofs.Asked.{standing_asked}
 use Rattle.row_printer.specs.{Printing.{Printing, PrintsOn, table_of, table_told}, Telling.{became, outcomes_in, recorded, TellsOnce}, declared.snapshot.Snapshot.Snapshot}
 use Rattle.row_printer.{specs.declared.told.Shown.Shown, specs.declared.told.Told.Told, proofs.Telling.outcomes-same}
 use Rattle.trace_stream.specs.{Asked.events_in, declared.asked.Asked.Asked, declared.asked.Asked.TheVariants.Until, declared.asked.Until.Until as Waited}
-use Rattle.row_stream.specs.{Asking.tick_reached, Reaching.{CameBetween, CameBy, HasReached}, Serving.{ComeByBanks, ComeByTurns, HasServed, HaveCome, IsNextTurn, IsServing, SnapsAlong, TakesTurns, last_turn, lines_of, told_before, told_so_far}}
+use Rattle.row_stream.specs.{Asking.tick_reached, Reaching.{CameBetween, CameBy, HasReached}}
+use Rattle.row_stream.specs.Serving.{ComeByBanks, ComeByTurns, HasServed, HaveCome, IsNextTurn, IsServing, SnapsAlong, TakesTurns, last_turn, lines_of, told_before, told_so_far}
 use Rattle.row_stream.proofs.{Growing.none, Order.{ToldSo, are-told, come-by-banks, told-both}}
 
 -- histories that are the same replay the same

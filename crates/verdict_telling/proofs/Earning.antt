@@ -1,33 +1,14 @@
 -- Banks that accepted a write, and rows that are worn.
-use Rattle.std.proofs.Common.{◌≡◌, ℕ, ◌+◌, ◌-◌, ◌≤◌, ◌&&◌, ◌||◌, ◌==◌, not, Bool, true, false, List, [], ◌∷◌, ◌++◌, Some, None, drop, length, refl, sym, ap, ◌∙◌, cond, subst, suc, arith}
-use Rattle.std.{specs.List.list_any, specs.Prelude.{filter, slice_get}, proofs.lemmas.List.Folds.list_any-append, proofs.lemmas.Bool.eqb-true}
-use Rattle.masked_bytes.proofs.Truth.{and_false, or_false}
-use Rattle.row_rules.specs.{Answers.accepts, Rows.{accepted, line_of}, Table.is_of, Wearing.{is_wear_earned, worn_row}, declared.Asks.Asks, declared.Asks.TheVariants.{Reads, Writes, Cuts}}
-use Rattle.row_rules.specs.declared.Row.{Row}
+use Rattle.std.proofs.Common.{◌≡◌, ℕ, ◌+◌, ◌-◌, ◌≤◌, ◌&&◌, ◌||◌, ◌==◌, not, Bool, true, false, List, [], ◌∷◌, Some, None, drop, length, refl, sym, ap, ◌∙◌, cond, subst, suc, arith}
+use Rattle.std.specs.{List.list_any, Prelude.{filter, slice_get}}
+use Rattle.masked_bytes.proofs.Truth.{and_false}
+use Rattle.row_rules.specs.{Answers.accepts, Lines.IsOfLines, Rows.{accepted, line_of}, Table.is_of, Wearing.{is_wear_earned, worn_row}, declared.Asks.Asks}
+use Rattle.row_rules.specs.{declared.Asks.TheVariants.{Reads, Writes, Cuts}, declared.Row.Row}
 use Rattle.check_verdict.specs.{Judged.a_row, Verdicts.{bank_in, in_bank, mates}}
 use Rattle.result_rows.specs.{Table.outcome_at, declared.Outcome.Outcome}
 use Rattle.trace_reader.specs.{Events.AreEventsFor, declared.event.Event.Event}
 use Rattle.trace_rows.{specs.Rows.{row_of, rows_with}, proofs.Lines.{lines-exist, row-at}}
-use Rattle.row_rules.specs.Lines.{IsOfLines}
 use Rattle.verdict_telling.{specs.Earned.{has_bank, takes, unearned, unearned_from}, proofs.Tables.{next_of, one_of, rows_long}}
-
-or_swap : (a b : Bool) → (a || b) ≡ (b || a)
-or_swap true true = refl
-or_swap true false = refl
-or_swap false true = refl
-or_swap false false = refl
-
--- a bank that is there needn't be added, one that isn't is
-pub had_bank : (bank other : ℕ) (some : List ℕ) → has_bank bank some ≡ true → has_bank other some ≡ (bank == other || has_bank other some)
-had_bank bank other some is = by (bank == other) refl
-  where
-    by : (b : Bool) → (bank == other) ≡ b → has_bank other some ≡ (b || has_bank other some)
-    by true e = ap (λ k. has_bank k some) (sym (eqb-true bank other e)) ∙ is
-    by false e = refl
-
-pub more_banks : (bank other : ℕ) (some : List ℕ) → has_bank other (some ++ bank ∷ []) ≡ (bank == other || has_bank other some)
-more_banks bank other some =
-    list_any-append (λ b. b == other) some (bank ∷ []) ∙ ap (λ b. has_bank other some || b) (or_false (bank == other)) ∙ or_swap (has_bank other some) (bank == other)
 
 module _ {n : ℕ} (banks : List ℕ) where
   -- an accepted write of a line is one of its bank

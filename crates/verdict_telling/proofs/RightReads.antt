@@ -1,18 +1,18 @@
 -- The lines of a read tell exactly the outcomes that are right.
 use Rattle.std.proofs.Common.{◌≡◌, ℕ, ◌-◌, ◌<◌, ◌≤◌, ◌&&◌, ◌||◌, ◌==◌, not, Bool, true, false, List, [], Option, Some, None, refl, sym, ap, ◌∙◌, cond, arith}
-use Rattle.std.{specs.List.{list_any}, specs.Prelude.{nat_le, nat_lt, reverse}, proofs.lemmas.Bool.{eqb-true, leb-true, le-leb, ltb-true, ltb-false}}
+use Rattle.std.{specs.List.list_any, specs.Prelude.{nat_le, nat_lt, reverse}, proofs.lemmas.Bool.{eqb-true, leb-true, le-leb, ltb-true, ltb-false}}
 use Rattle.masked_bytes.proofs.Truth.{and_false, and_true, or_false}
 use Rattle.result_rows.specs.declared.Outcome.{Outcome}
 use Rattle.result_rows.specs.declared.Outcome.TheVariants as out
 use Rattle.row_rules.specs.{Serving.same_bytes, declared.Row.Row, declared.Rules.Rules}
 use Rattle.check_verdict.specs.{Judged.{a_read, beside}, Keeping.{before_cut, at_cut}, Verdicts.bank_in, declared.Rule.Rule}
-use Rattle.check_telling.specs.{Grounds.{TellsRead, grounds_of}, Right.{RightReadLaw, is_right_read, read_grounds}, Standing.tick_at, declared.facts.RowAt.RowAt, declared.grounds.Grounds.Grounds}
+use Rattle.check_telling.specs.{Grounds.{TellsRead, grounds_of}, Right.{RightReadLaw, is_right_read, read_grounds}, Standing.tick_at, declared.facts.RowAt.RowAt}
+use Rattle.check_telling.specs.declared.grounds.Grounds.{Grounds}
 use Rattle.clause_telling.{specs.Rooms.{TellsRoom, is_room}, specs.declared.room.Crowd.Crowd, proofs.Rooms.room_law}
 use Rattle.verdict_telling.specs.Explained.{MayTell, is_offered, is_right}
 use Rattle.verdict_telling.specs.Offers.{Offer, Lost, Busy, Forwarded, can_forward, can_read, can_refuse, has_free, is_none_of, last_tick, line_if, lines_of, lost_line, offers}
-use Rattle.verdict_telling.specs.Offers.{read_line, read_lines}
+use Rattle.verdict_telling.{specs.Offers.{read_line, read_lines}, proofs.Banks.rising_of_bank, proofs.Lines.{any_if, free_found, skip, skip_lost}}
 use Rattle.verdict_telling.specs.declared.row.Finds.TheVariants as finds
-use Rattle.verdict_telling.proofs.{Banks.rising_of_bank, Lines.{any_if, free_found, skip, skip_lost}}
 
 -- the last tick at which a read may be read is its bound, or the first cut
 pub last_is : (u by : ℕ) (cut : Option RowAt) → nat_le u (last_tick by cut) ≡ (nat_le u by && before_cut u (tick_at cut))

@@ -5,18 +5,19 @@ use Rattle.std.proofs.lemmas.Bool.{leb-true, leb-false, le-leb, lt-leb, lt-ltb, 
 use Rattle.masked_bytes.proofs.{Counting.{count-append, count-cons}, Truth.{and_false, and_first, and_second, and_true, or_false}}
 use Rattle.result_rows.specs.declared.Outcome.{Outcome}
 use Rattle.result_rows.specs.declared.Outcome.TheVariants as out
-use Rattle.row_rules.specs.{Answers.{stored_after, stored_by, read_after, read_by}, Queueing.{has_room, merges_at, pending}}
-use Rattle.row_rules.specs.{Rows.{accepted_of, asks_read, asks_write}, Table.{is_of, of_bank}, Ticking.{apart, cuts_to, longest, reads_in, stores_in}}
-use Rattle.row_rules.specs.{Wearing.{worn_by, worn_row}, declared.Row.Row, declared.Rules.Rules}
+use Rattle.row_rules.specs.{Answers.{stored_after, stored_by, read_after, read_by}, Queueing.{has_room, merges_at, pending}, Rows.{accepted_of, asks_read, asks_write}}
+use Rattle.row_rules.specs.{Table.{is_of, of_bank}, Ticking.{apart, cuts_to, longest, reads_in, stores_in}, Wearing.{worn_by, worn_row}, declared.Row.Row, declared.Rules.Rules}
 use Rattle.check_judging.{specs.Distances.{end_to, ends_above, is_far_below, last_end, later_of, waits_above}, specs.Rising.rising, proofs.Apart.apart_law}
-use Rattle.check_verdict.{specs.Judged.{a_cut, a_write, beside}, specs.Verdicts.{all_have_room, bank_in}, specs.declared.Rule.Rule, proofs.Apart.all-reverse, proofs.Fits.any-reverse, proofs.Settles.filter-reverse}
-use Rattle.check_telling.specs.{Clauses.latest, RightWrites.{RightCutLaw, RightWriteLaw, is_right_cut, is_right_write, may_be_full}, Standing.{first_at, mates_of, row_at, rows_of, tick_at}, WriteGrounds.{TellsWrite, by_bound}}
-use Rattle.check_telling.specs.{declared.facts.RowAt.RowAt, declared.mates.Numbered.Numbered, declared.writes.WriteGrounds.WriteGrounds}
+use Rattle.check_verdict.{specs.Judged.{a_cut, a_write, beside}, specs.Verdicts.{all_have_room, bank_in}, specs.declared.Rule.Rule, proofs.Apart.all-reverse}
+use Rattle.check_verdict.proofs.{Fits.any-reverse, Settles.filter-reverse}
+use Rattle.check_telling.specs.{Clauses.latest, RightWrites.{RightCutLaw, RightWriteLaw, is_right_cut, is_right_write, may_be_full}}
+use Rattle.check_telling.specs.{Standing.{first_at, mates_of, row_at, rows_of, tick_at}, WriteGrounds.{TellsWrite, by_bound}, declared.facts.RowAt.RowAt}
+use Rattle.check_telling.specs.{declared.mates.Numbered.Numbered, declared.writes.WriteGrounds.WriteGrounds}
 use Rattle.clause_telling.{specs.Rooms.{TellsRoom, is_room}, specs.declared.room.Crowd.Crowd, proofs.Rooms.room_law}
 use Rattle.verdict_telling.specs.Explained.{MayTell, is_offered, is_right, is_some_row}
-use Rattle.verdict_telling.specs.Offers.{Offer, Stores, Merged, Queued, Full, Stored, Worn, is_below, is_none_of, line_if, lines_of, may_store, merged_line, offers, stored_line, unless_worn, write_lines}
+use Rattle.verdict_telling.specs.Offers.{Offer, Stores, Merged, Queued, Full, Stored, Worn, is_below, is_none_of, line_if, lines_of, may_store, merged_line, offers, stored_line}
+use Rattle.verdict_telling.{specs.Offers.{unless_worn, write_lines}, proofs.Banks.{rising_of_bank, rows_are, worn_is}, proofs.Lines.any_if}
 use Rattle.verdict_telling.specs.declared.row.Finds.TheVariants as finds
-use Rattle.verdict_telling.proofs.{Banks.{rising_of_bank, rows_are, worn_is}, Lines.any_if}
 
 -- how much a test counts
 abbrev tally : Bool → ℕ

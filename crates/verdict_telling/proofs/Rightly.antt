@@ -6,14 +6,13 @@ use Rattle.result_rows.specs.declared.Outcome.{Outcome}
 use Rattle.result_rows.specs.declared.Outcome.TheVariants as out
 use Rattle.row_rules.specs.{Serving.same_bytes, declared.Row.Row, declared.Rules.Rules}
 use Rattle.check_verdict.specs.{Judged.{a_cut, a_read, a_write, beside}, Verdicts.bank_in, declared.Rule.Rule}
-use Rattle.check_telling.specs.{Right.RightReadLaw, RightWrites.{RightCutLaw, RightWriteLaw}}
-use Rattle.check_telling.specs.{Grounds.TellsRead, WriteGrounds.TellsWrite, declared.facts.RowAt.RowAt, declared.grounds.Grounds.Grounds, declared.writes.WriteGrounds.WriteGrounds}
+use Rattle.check_telling.specs.{Grounds.TellsRead, Right.RightReadLaw, RightWrites.{RightCutLaw, RightWriteLaw}, WriteGrounds.TellsWrite, declared.facts.RowAt.RowAt}
+use Rattle.check_telling.specs.{declared.grounds.Grounds.Grounds, declared.writes.WriteGrounds.WriteGrounds}
 use Rattle.clause_telling.specs.{Rooms.TellsRoom, declared.room.Crowd.Crowd}
 use Rattle.verdict_telling.specs.Explained.{AreRight, MayTell}
-use Rattle.verdict_telling.specs.Offers.{Offer, Busy, Forwarded, Lost, can_forward, can_read, can_refuse, last_tick, line_if, lines_of, lost_line, offers}
-use Rattle.verdict_telling.specs.Offers.{read_line, read_lines}
-use Rattle.verdict_telling.specs.declared.row.Finds.TheVariants as finds
+use Rattle.verdict_telling.specs.Offers.{Offer, Busy, Forwarded, Lost, can_forward, can_read, can_refuse, last_tick, line_if, lines_of, lost_line, offers, read_line, read_lines}
 use Rattle.verdict_telling.proofs.{Banks.rising_of_bank, Lines.some_free, RightReads.read_exact, RightWrites.{cut_exact, write_exact, write_lines_tell}}
+use Rattle.verdict_telling.specs.declared.row.Finds.TheVariants as finds
 
 same_self : (bytes : List ℕ) → same_bytes bytes bytes ≡ true
 same_self [] = refl

@@ -1,22 +1,21 @@
 -- What is told of a row is what it finds.
 use Rattle.std.proofs.Common.{◌≡◌, ℕ, suc, ◌-◌, ◌==◌, ◌≤◌, Bool, true, List, [], ◌∷◌, Option, Some, None, length, refl, sym, ap, ◌∙◌, subst, arith}
-use Rattle.std.{specs.List.list_any, specs.Prelude.{drop, filter, nat_lt, reverse, slice_get, take}}
+use Rattle.std.specs.{List.list_any, Prelude.{drop, filter, nat_lt, reverse, slice_get, take}}
 use Rattle.result_rows.specs.declared.Outcome.{Outcome}
 use Rattle.result_rows.specs.declared.Outcome.TheVariants as out
 use Rattle.row_rules.specs.{Queueing.{pending, is_refused}, Rows.write_of, Table.{is_of, of_bank}, Wearing.worn_row, declared.Asks.Asks}
 use Rattle.row_rules.specs.{declared.Asks.TheVariants.{Reads, Writes, Cuts}, declared.Row.Row, declared.Rules.Rules}
 use Rattle.check_verdict.specs.{Judged.{a_cut, a_read, a_row, a_write, beside}, Verdicts.{bank_in, verdict_of}, declared.Rule.Rule, declared.Verdict.TheVariants.No}
 use Rattle.check_verdict.proofs.{Fits.any-reverse, Settles.filter-reverse}
-use Rattle.check_telling.specs.{Right.RightReadLaw, RightWrites.{RightCutLaw, RightWriteLaw}}
-use Rattle.check_telling.specs.{Clauses.{holds, latest}, Grounds.{TellsRead, grounds_of}, Standing.{first_at, mates_of}, WriteGrounds.TellsWrite}
-use Rattle.check_telling.specs.{declared.Clause.Clause, declared.facts.RowAt.RowAt, declared.facts.StoreCounts.StoreCounts, declared.grounds.Grounds.Grounds}
-use Rattle.check_telling.specs.{declared.writes.WriteGrounds.WriteGrounds}
+use Rattle.check_telling.specs.{Clauses.{holds, latest}, Grounds.{TellsRead, grounds_of}, Right.RightReadLaw, RightWrites.{RightCutLaw, RightWriteLaw}}
+use Rattle.check_telling.specs.{Standing.{first_at, mates_of}, WriteGrounds.TellsWrite, declared.Clause.Clause, declared.facts.RowAt.RowAt, declared.facts.StoreCounts.StoreCounts}
+use Rattle.check_telling.specs.{declared.grounds.Grounds.Grounds, declared.writes.WriteGrounds.WriteGrounds}
 use Rattle.check_telling.specs.declared.Clause.TheVariants as clause
 use Rattle.clause_telling.specs.{ByFinds.{read_clause, write_clause}, Counts.TellsCounts, Others.is_near, Rooms.{TellsRoom, is_room}, declared.room.Crowd.Crowd}
 use Rattle.clause_telling.proofs.{ReadClauses.{read_clause_law, cut_clause_law}, Rooms.room_law, WriteClauses.write_clause_law}
 use Rattle.verdict_telling.specs.Explained.{AreRight, Explains, MayTell, TellsAsked, TellsOf, TellsOne, TellsRow, IsWriteOf, IsOfCut, is_some_row, late_of, stale_of}
-use Rattle.verdict_telling.{specs.declared.row.Explanation.Explanation, specs.declared.row.Finds.Finds, specs.Offers.lines_of}
-use Rattle.verdict_telling.proofs.{Banks.{rising_of_bank, rows_are, worn_is}, Rightly.{cut_right, read_right, write_right}, Tables.{behind, same_one, there}}
+use Rattle.verdict_telling.{specs.Offers.lines_of, specs.declared.row.Explanation.Explanation, specs.declared.row.Finds.Finds, proofs.Banks.{rising_of_bank, rows_are, worn_is}}
+use Rattle.verdict_telling.proofs.{Rightly.{cut_right, read_right, write_right}, Tables.{behind, same_one, there}}
 use Rattle.verdict_telling.specs.declared.row.Finds.TheVariants as finds
 
 module _ {n : ℕ} (rules : Rules) (banks : List ℕ) (before after : List (Row n)) (row : ℕ) (rule : Rule) where

@@ -1,6 +1,6 @@
 -- Whether wearing out is earned, as far as rows tell.
 use Rattle.std.specs.{List.list_any, Prelude.{ℕ, ◌+◌, ◌==◌, ◌&&◌, Bool, if◌then◌else◌, List, [], ◌∷◌, Option, Some, None}}
-use Rattle.row_rules.specs.{Rows.{accepted}, Table.is_of, Wearing.is_wear_earned, declared.Row.Row}
+use Rattle.row_rules.specs.{Rows.accepted, Table.is_of, Wearing.is_wear_earned, declared.Row.Row}
 use Rattle.check_verdict.specs.Verdicts.{bank_in, in_bank}
 
 -- a bank is one of these

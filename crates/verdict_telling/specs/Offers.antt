@@ -1,10 +1,11 @@
 -- What is told to be right for a row: lines, each of which offers outcomes.
-use Rattle.std.specs.{List.{list_all, list_any}, Prelude.{ℕ, ◌+◌, ◌++◌, ◌==◌, ◌&&◌, ◌||◌, not, Bool, true, false, if◌then◌else◌, List, [], ◌∷◌, Option, Some, None, nat_le, nat_lt, option_to_list}}
+use Rattle.std.specs.List.{list_all, list_any}
+use Rattle.std.specs.Prelude.{ℕ, ◌+◌, ◌++◌, ◌==◌, ◌&&◌, ◌||◌, not, Bool, true, false, if◌then◌else◌, List, [], ◌∷◌, Option, Some, None, nat_le, nat_lt, option_to_list}
 use Rattle.result_rows.specs.declared.Outcome.{Outcome}
 use Rattle.result_rows.specs.declared.Outcome.TheVariants as out
 use Rattle.row_rules.specs.{Serving.same_bytes, Ticking.{stores_in, reads_in, cuts_to}, declared.Row.Row, declared.Rules.Rules}
-use Rattle.check_telling.specs.{Standing.tick_at, WriteGrounds.by_bound, declared.facts.RowAt.RowAt, declared.facts.StoreBound.StoreBound}
-use Rattle.check_telling.specs.{declared.grounds.Grounds.Grounds, declared.writes.WriteGrounds.WriteGrounds}
+use Rattle.check_telling.specs.{Standing.tick_at, WriteGrounds.by_bound, declared.facts.RowAt.RowAt, declared.facts.StoreBound.StoreBound, declared.grounds.Grounds.Grounds}
+use Rattle.check_telling.specs.declared.writes.WriteGrounds.{WriteGrounds}
 use Rattle.clause_telling.specs.declared.room.Crowd.{Crowd}
 use Rattle.verdict_telling.specs.declared.row.Finds.{Finds}
 use Rattle.verdict_telling.specs.declared.row.Finds.TheVariants as finds

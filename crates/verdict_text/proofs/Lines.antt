@@ -1,8 +1,8 @@
 -- Lines that are said one behind another.
 use Rattle.std.proofs.Common.{◌≡◌, ℕ, ◌&&◌, Bool, true, false, List, [], ◌∷◌, Option, Some, None, refl, sym, ap, ◌∙◌}
 use Rattle.check_telling.specs.{declared.facts.RowAt.RowAt, declared.grounds.Grounds.Grounds, declared.writes.WriteGrounds.WriteGrounds}
-use Rattle.verdict_telling.specs.Offers.{Offer, Busy, Forwarded, Full, Lost, Queued, Worn, can_forward, can_read, can_refuse, line_if, lost_line, merged_line, read_line, read_lines, stored_line}
-use Rattle.verdict_telling.specs.Offers.{unless_worn, write_lines}
+use Rattle.verdict_telling.specs.Offers.{Offer, Busy, Forwarded, Full, Lost, Queued, Worn, can_forward, can_read, can_refuse, line_if, lost_line, merged_line, read_line}
+use Rattle.verdict_telling.specs.Offers.{read_lines, stored_line, unless_worn, write_lines}
 use Rattle.verdict_text.specs.RightLines.{lines_on, offer_on, offers_on, stored_on}
 
 -- ---- one line, and others behind it

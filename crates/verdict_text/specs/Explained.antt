@@ -7,8 +7,8 @@ use Rattle.check_telling.specs.declared.Clause.{Clause}
 use Rattle.check_telling.specs.declared.Clause.TheVariants as clause
 use Rattle.clause_telling.specs.declared.room.Crowd.{Crowd}
 use Rattle.verdict_telling.specs.{Offers.lines_of, declared.row.Explanation.Explanation, declared.row.Finds.Finds, declared.row.Finds.TheVariants.{Read, Write, Cut}}
-use Rattle.verdict_text.specs.{ClauseWords.clause_words, ReadFacts.{own_on, read_facts_on}, RightLines.right_on, RoomFacts.crowd_on}
-use Rattle.verdict_text.specs.{RowWords.{answer_on, asks_on}, WriteFacts.write_facts_on}
+use Rattle.verdict_text.specs.{ClauseWords.clause_words, ReadFacts.{own_on, read_facts_on}, RightLines.right_on, RoomFacts.crowd_on, RowWords.{answer_on, asks_on}}
+use Rattle.verdict_text.specs.WriteFacts.{write_facts_on}
 
 -- the bank of a row's line; a cut is of no bank
 abbrev pub bank_on : List ℕ → Option ℕ → List ℕ

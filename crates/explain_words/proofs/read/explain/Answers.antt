@@ -1,6 +1,5 @@
 use Rattle.std.proofs.Common.{◌≡◌, Bool, Some, ap, sym, ◌∙◌}
-use Rattle.command_line.specs.declared.job.CheckJob.{CheckJob}
-use Rattle.command_line.proofs.Steps.{some_step, none_step}
+use Rattle.command_line.{specs.declared.job.CheckJob.CheckJob, proofs.Steps.{some_step, none_step}}
 use Rattle.explain_words.specs.{Jobs.explain_of, declared.job.ExplainJob.ExplainJob}
 use Rattle.explain_words.proofs.read.explain.Goals as goal
 

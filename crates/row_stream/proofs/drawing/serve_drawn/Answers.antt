@@ -1,14 +1,14 @@
 use Rattle.std.proofs.Common.{◌≡◌, ◌∙◌, ◌&&◌, ℕ, Bool, List, ap, refl, sym, subst, arith}
 use Rattle.row_printer.specs.{Printing.table_told, Refusing.any_refused, declared.snapshot.Snapshot.Snapshot, declared.told.Shown.Shown, declared.told.Told.Told}
 use Rattle.row_stream.{specs.Refusing.WentOn, specs.Serving.{IsServing, told_so_far}, proofs.Alike.told-same}
-use Rattle.drawn_parts.specs.Parts.{drawn_for}
-use Rattle.row_stream.proofs.{Draws.{drawn-all, drawn-few, drawn-first, drawn-more, drawn-next, next-for, none-for, total-some}, Refusals.{ends-all, ends-there, none-first, still-none}}
+use Rattle.row_stream.proofs.Draws.{drawn-all, drawn-few, drawn-first, drawn-more, drawn-next, next-for, none-for, total-some}
+use Rattle.row_stream.proofs.Refusals.{ends-all, ends-there, none-first, still-none}
 use Rattle.row_stream.proofs.drawing.serve_drawn.Goals as goal
+use Rattle.drawn_parts.specs.Parts.{drawn_for}
 use Rattle.module_shape.specs.{Limits.total_of, declared.raw.RawShape.RawShape}
-use Rattle.trace_reader.specs.{Events.AreEventsFor, declared.event.Event.Event}
+use Rattle.trace_reader.{specs.Events.AreEventsFor, specs.declared.event.Event.Event, proofs.Sizes.event_fits}
 use Rattle.trace_gen.specs.Generated.{generated}
 use Rattle.trace_stream.specs.Laws.{all_events}
-use Rattle.trace_reader.proofs.Sizes.{event_fits}
 
 pub rows-init : goal.rows-init
 rows-init g c = record {

@@ -4,8 +4,7 @@ use Rattle.row_rules.specs.{Rows.line_of, Wearing.worn_row}
 use Rattle.trace_rows.specs.Rows.{rows_with}
 use Rattle.check_verdict.specs.Verdicts.{bank_in}
 use Rattle.check_telling.proofs.Sizes.{row_fits}
-use Rattle.verdict_telling.specs.Earned.{has_bank}
-use Rattle.verdict_telling.proofs.{Earning.{Passed, few_rows, found_none, found_one, of_lines, passed_more, row_here}, Tables.none_left}
+use Rattle.verdict_telling.{specs.Earned.has_bank, proofs.Earning.{Passed, few_rows, found_none, found_one, of_lines, passed_more, row_here}, proofs.Tables.none_left}
 use Rattle.verdict_telling.proofs.earned.find_unearned.Goals as goal
 
 pub is_earned-requires : goal.is_earned-requires

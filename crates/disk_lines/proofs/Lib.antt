@@ -1,0 +1,7 @@
+pub mod Placing
+mod Hearing
+mod Masking
+mod Asking
+mod Making
+mod Reading
+mod Disks

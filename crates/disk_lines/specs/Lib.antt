@@ -1,0 +1,7 @@
+pub mod Places
+pub mod Placing
+pub mod Items
+pub mod Hearing
+pub mod Asking
+pub mod Lines
+pub mod Serving

@@ -1,0 +1,341 @@
+// A module over its array as rows come.
+ghost use Rattle.std.specs.Prelude.{◌≡◌, ◌<◌, ◌≤◌, length, IfOk, IfErr, OnOk, OnErr, IfSome, false};
+ghost use Rattle.ecp_line.specs.Layout.{IsLayout};
+ghost use Rattle.trace_reader.specs.Events.{IsEventFor};
+ghost use Rattle.trace_reader.specs.Rows.{latest_tick};
+ghost use Rattle.row_rules.specs.Rows.{newest};
+ghost use Rattle.module_shape.specs.Limits.{total_of};
+ghost use Rattle.disk_lines.specs.Asking.{HasCause, HasHeard, IsLater, LaysOver, Passes, SameLines, TakesRow, is_full, rows_heard, most_rows};
+ghost use Rattle.pcm_module.specs.State.{bank_at};
+ghost use Rattle.disk_lines.specs.Hearing.{events_in};
+
+use crate::cuts::Cuts;
+use crate::masks::{answer, has_some, is_accepted, is_open, write_op};
+use crate::watch::Watch;
+use atomic_sectors::Stopped;
+use bank_timing::clocked::Timed;
+use cell_rows::CellArray;
+use pcm_module::Module;
+use read_moments::{
+    no_answer_is_wrong_meanwhile, no_row_takes_back_bytes, no_settle_takes_back_bytes,
+};
+use trace_reader::{Event, EventOp};
+
+/// The last tick at which a row may come.
+const LAST_TICK: u64 = 1_099_511_627_776;
+
+/// The number of the last row.
+const LAST_ROW: u32 = 4_294_967_294;
+
+/// A module over its array, what was heard of its rows, and when the power is to be cut.
+#[derive(Drop)]
+pub(crate) struct Running<
+    const B: usize,
+    const M: usize,
+    const E: usize,
+    A: CellArray<B, M> + Drop,
+> {
+    pub(crate) module: Module<B, M, E>,
+    pub(crate) array: A,
+    pub(crate) watch: Watch<B>,
+    pub(crate) cuts: Cuts,
+}
+
+impl<const B: usize, const M: usize, const E: usize, A: CellArray<B, M> + Drop> Running<
+    B,
+    M,
+    E,
+    A,
+> {
+    // A row comes.
+    fn hand_in(&mut self, event: &Event<B>)
+        requires layout { IsLayout B M E }
+        requires event { IsEventFor (total_of self.old.module.shape) self.old.module.tick event.now }
+        requires few { length (events_in self.old.watch.heard) < most_rows }
+        requires has { HasHeard self.old.module (A.state self.old.array) self.old.watch.heard }
+        ensures has { HasHeard self.new.module (A.state self.new.array) self.new.watch.heard }
+        ensures takes { TakesRow self.old.module self.new.module event.now self.old.watch self.new.watch }
+    {
+        no_row_takes_back_bytes();
+        let _ = self.watch.rows();
+        self.watch.add(event);
+        let row = self.watch.rows();
+        // Its sizes make known that each line's bank is one of the module's.
+        let _ = self.module.shape();
+        self.module
+            .event(&mut self.array, row, event, &mut self.watch);
+        let _ = self.watch.rows();
+        let _ = self.watch.last();
+    }
+
+    // Every bank comes to a tick, and no row comes.
+    fn pass_to(&mut self, tick: u64)
+        requires layout { IsLayout B M E }
+        requires rises { self.old.module.tick ≤ tick }
+        requires in_time { tick ≤ latest_tick }
+        requires has { HasHeard self.old.module (A.state self.old.array) self.old.watch.heard }
+        ensures has { HasHeard self.new.module (A.state self.new.array) self.new.watch.heard }
+        ensures passes { Passes self.old.module self.new.module tick self.old.watch.heard
+            self.new.watch.heard }
+    {
+        no_settle_takes_back_bytes();
+        let _ = self.module.shape();
+        self.module.settle(&mut self.array, tick, &mut self.watch);
+        let _ = self.watch.rows();
+    }
+
+    // The power is cut at a tick, where one row more may come.
+    fn cut(&mut self, tick: u64) -> Stopped
+        requires layout { IsLayout B M E }
+        requires rises { self.old.module.tick ≤ tick }
+        requires in_time { tick ≤ latest_tick }
+        requires has { HasHeard self.old.module (A.state self.old.array) self.old.watch.heard }
+        ensures has { HasHeard self.new.module (A.state self.new.array) self.new.watch.heard }
+        ensures later { IsLater self.old.module self.new.module self.old.watch.heard self.new.watch.heard }
+        ensures same { SameLines self.old.module self.new.module self.old.watch.heard
+            self.new.watch.heard }
+        ensures cause { HasCause result self.new.module.tick self.old.watch.heard self.new.watch.heard }
+    {
+        if self.watch.rows() >= LAST_ROW {
+            return Stopped::Worn;
+        }
+        let event = Event {
+            tick,
+            op: EventOp::Cut,
+        };
+        self.hand_in(&event);
+        Stopped::Cut
+    }
+
+    // Time passes to a tick, or to a cut that comes by then.
+    fn go_on(&mut self, tick: u64) -> Result<(), Stopped>
+        requires layout { IsLayout B M E }
+        requires rises { self.old.module.tick ≤ tick }
+        requires in_time { tick ≤ latest_tick }
+        requires has { HasHeard self.old.module (A.state self.old.array) self.old.watch.heard }
+        ensures has { HasHeard self.new.module (A.state self.new.array) self.new.watch.heard }
+        ensures later { IsLater self.old.module self.new.module self.old.watch.heard self.new.watch.heard }
+        ensures same { SameLines self.old.module self.new.module self.old.watch.heard
+            self.new.watch.heard }
+        ensures cause { IfErr result (λ why. HasCause why self.new.module.tick self.old.watch.heard
+            self.new.watch.heard) }
+        ensures tick { OnOk result (self.new.module.tick ≡ tick) }
+        ensures events { OnOk result (events_in self.new.watch.heard ≡ events_in self.old.watch.heard) }
+    {
+        match self.cuts.due_by(self.module.tick(), tick) {
+            Some(at) => Err(self.cut(at)),
+            None => {
+                self.pass_to(tick);
+                Ok(())
+            }
+        }
+    }
+
+    // The tick at which what a bank does next ends, a later one than now.
+    fn next_end(&self, bank: u32) -> Result<u64, Stopped>
+        requires layout { IsLayout B M E }
+        requires exists { bank < self.now.module.shape.banks }
+        requires has { HasHeard self.now.module (A.state self.now.array) self.now.watch.heard }
+        ensures later { IfOk result (λ tick. (self.now.module.tick < tick) × (tick ≤ latest_tick)) }
+        ensures cause { IfErr result (λ why. HasCause why self.now.module.tick self.now.watch.heard
+            self.now.watch.heard) }
+    {
+        let now = self.module.tick();
+        if now >= LAST_TICK {
+            return Err(Stopped::Worn);
+        }
+        let next = self.module.timed(bank).next_end(LAST_TICK);
+        Ok(next.min(LAST_TICK).max(now + 1))
+    }
+
+    // Time passes until what a bank does next ends.
+    fn step(&mut self, bank: u32) -> Result<(), Stopped>
+        requires layout { IsLayout B M E }
+        requires exists { bank < self.old.module.shape.banks }
+        requires has { HasHeard self.old.module (A.state self.old.array) self.old.watch.heard }
+        ensures has { HasHeard self.new.module (A.state self.new.array) self.new.watch.heard }
+        ensures later { IsLater self.old.module self.new.module self.old.watch.heard self.new.watch.heard }
+        ensures same { SameLines self.old.module self.new.module self.old.watch.heard
+            self.new.watch.heard }
+        ensures cause { IfErr result (λ why. HasCause why self.new.module.tick self.old.watch.heard
+            self.new.watch.heard) }
+        ensures further { OnOk result ((self.old.module.tick < self.new.module.tick)
+            × (self.new.module.tick ≤ latest_tick)) }
+        ensures events { OnOk result (events_in self.new.watch.heard ≡ events_in self.old.watch.heard) }
+    {
+        let tick = self.next_end(bank)?;
+        self.go_on(tick)
+    }
+
+    // Time passes until the last row has its outcome; its bank is this one.
+    fn wait(&mut self, bank: u32) -> Result<(), Stopped>
+        requires layout { IsLayout B M E }
+        requires exists { bank < self.old.module.shape.banks }
+        requires has { HasHeard self.old.module (A.state self.old.array) self.old.watch.heard }
+        ensures has { HasHeard self.new.module (A.state self.new.array) self.new.watch.heard }
+        ensures later { IsLater self.old.module self.new.module self.old.watch.heard self.new.watch.heard }
+        ensures same { SameLines self.old.module self.new.module self.old.watch.heard
+            self.new.watch.heard }
+        ensures cause { IfErr result (λ why. HasCause why self.new.module.tick self.old.watch.heard
+            self.new.watch.heard) }
+        ensures events { OnOk result (events_in self.new.watch.heard ≡ events_in self.old.watch.heard) }
+    {
+        'waits: while is_open(self.watch.last()) {
+            self.step(bank)?;
+        }
+        Ok(())
+    }
+
+    // Whether a bank holds as many writes as it may, and still stores them: one that found no spare, or has halted, does not.
+    fn is_full(&self, bank: u32) -> bool
+        requires layout { IsLayout B M E }
+        requires exists { bank < self.now.module.shape.banks }
+        ensures { result ≡ is_full (bank_at self.now.module bank) }
+    {
+        holds_all(self.module.timed(bank))
+    }
+
+    // Time passes until a bank takes one more write, or takes none any more.
+    fn make_room(&mut self, bank: u32) -> Result<(), Stopped>
+        requires layout { IsLayout B M E }
+        requires exists { bank < self.old.module.shape.banks }
+        requires has { HasHeard self.old.module (A.state self.old.array) self.old.watch.heard }
+        ensures has { HasHeard self.new.module (A.state self.new.array) self.new.watch.heard }
+        ensures later { IsLater self.old.module self.new.module self.old.watch.heard self.new.watch.heard }
+        ensures same { SameLines self.old.module self.new.module self.old.watch.heard
+            self.new.watch.heard }
+        ensures cause { IfErr result (λ why. HasCause why self.new.module.tick self.old.watch.heard
+            self.new.watch.heard) }
+        ensures room { OnOk result (is_full (bank_at self.new.module bank) ≡ false) }
+    {
+        'rooms: while self.is_full(bank) {
+            self.step(bank)?;
+        }
+        Ok(())
+    }
+
+    // The tick of the next row, which may come; a cut that comes by then comes first.
+    fn next_tick(&mut self) -> Result<u64, Stopped>
+        requires layout { IsLayout B M E }
+        requires has { HasHeard self.old.module (A.state self.old.array) self.old.watch.heard }
+        ensures has { HasHeard self.new.module (A.state self.new.array) self.new.watch.heard }
+        ensures later { IsLater self.old.module self.new.module self.old.watch.heard self.new.watch.heard }
+        ensures same { SameLines self.old.module self.new.module self.old.watch.heard
+            self.new.watch.heard }
+        ensures cause { IfErr result (λ why. HasCause why self.new.module.tick self.old.watch.heard
+            self.new.watch.heard) }
+        ensures next { IfOk result (λ tick. (self.new.module.tick ≤ tick) × (tick ≤ latest_tick)
+            × (length (events_in self.new.watch.heard) < most_rows)) }
+    {
+        let now = self.module.tick();
+        if now >= LAST_TICK || self.watch.rows() >= LAST_ROW {
+            return Err(Stopped::Worn);
+        }
+        match self.cuts.due_by(now, now + 1) {
+            Some(at) => Err(self.cut(at)),
+            None => Ok(now + 1),
+        }
+    }
+
+    // Asks for a line once, and waits for its answer. There is none where its bank has no room for a read.
+    fn ask(&mut self, place: u32, bank: u32) -> Result<Option<[u8; B]>, Stopped>
+        requires layout { IsLayout B M E }
+        requires within { place < total_of self.old.module.shape }
+        requires exists { bank < self.old.module.shape.banks }
+        requires has { HasHeard self.old.module (A.state self.old.array) self.old.watch.heard }
+        ensures has { HasHeard self.new.module (A.state self.new.array) self.new.watch.heard }
+        ensures later { IsLater self.old.module self.new.module self.old.watch.heard self.new.watch.heard }
+        ensures same { SameLines self.old.module self.new.module self.old.watch.heard
+            self.new.watch.heard }
+        ensures cause { IfErr result (λ why. HasCause why self.new.module.tick self.old.watch.heard
+            self.new.watch.heard) }
+        ensures more { OnOk result ((length (events_in self.old.watch.heard)
+            < length (events_in self.new.watch.heard))
+            × (length (events_in self.new.watch.heard) ≤ most_rows)) }
+        ensures bytes { IfOk result (λ answer. IfSome answer (λ bytes. bytes
+            ≡ newest (rows_heard self.old.watch.heard) place)) }
+    {
+        no_answer_is_wrong_meanwhile();
+        let tick = self.next_tick()?;
+        let event = Event {
+            tick,
+            op: EventOp::Read(place),
+        };
+        self.hand_in(&event);
+        self.wait(bank)?;
+        let _ = self.module.shape();
+        Ok(answer(self.watch.last()))
+    }
+
+    /// Reads a line of the module, whose bank is this one.
+    pub(crate) fn read(&mut self, place: u32, bank: u32) -> Result<[u8; B], Stopped>
+        requires layout { IsLayout B M E }
+        requires within { place < total_of self.old.module.shape }
+        requires exists { bank < self.old.module.shape.banks }
+        requires has { HasHeard self.old.module (A.state self.old.array) self.old.watch.heard }
+        ensures has { HasHeard self.new.module (A.state self.new.array) self.new.watch.heard }
+        ensures later { IsLater self.old.module self.new.module self.old.watch.heard self.new.watch.heard }
+        ensures same { SameLines self.old.module self.new.module self.old.watch.heard
+            self.new.watch.heard }
+        ensures cause { IfErr result (λ why. HasCause why self.new.module.tick self.old.watch.heard
+            self.new.watch.heard) }
+        ensures bytes { IfOk result (λ bytes. bytes
+            ≡ newest (rows_heard self.old.watch.heard) place) }
+    {
+        'asks: loop {
+            if let Some(bytes) = self.ask(place, bank)? {
+                return Ok(bytes);
+            }
+        }
+    }
+
+    /// Writes those bytes of a line of the module that are given; its bank is this one. Where none is given no row comes.
+    pub(crate) fn write(
+        &mut self,
+        place: u32,
+        bank: u32,
+        bytes: &[u8; B],
+        given: &[bool; B],
+    ) -> Result<(), Stopped>
+        requires layout { IsLayout B M E }
+        requires within { place < total_of self.old.module.shape }
+        requires exists { bank < self.old.module.shape.banks }
+        requires has { HasHeard self.old.module (A.state self.old.array) self.old.watch.heard }
+        ensures has { HasHeard self.new.module (A.state self.new.array) self.new.watch.heard }
+        ensures later { IsLater self.old.module self.new.module self.old.watch.heard self.new.watch.heard }
+        ensures lays { OnOk result (LaysOver self.old.module self.new.module place bytes.now given.now
+            self.old.watch.heard self.new.watch.heard) }
+        ensures same { OnErr result (SameLines self.old.module self.new.module self.old.watch.heard
+            self.new.watch.heard) }
+        ensures cause { IfErr result (λ why. HasCause why self.new.module.tick self.old.watch.heard
+            self.new.watch.heard) }
+    {
+        if !has_some(given) {
+            return Ok(());
+        }
+        no_answer_is_wrong_meanwhile();
+        self.make_room(bank)?;
+        let tick = self.next_tick()?;
+        let event = Event {
+            tick,
+            op: write_op(place, bytes, given),
+        };
+        self.hand_in(&event);
+        let _ = self.module.shape();
+        if is_accepted(self.watch.last()) {
+            Ok(())
+        } else {
+            Err(Stopped::Worn)
+        }
+    }
+}
+
+// Whether a bank holds as many writes as it may, and still stores them.
+fn holds_all<const B: usize, const M: usize, const E: usize>(timed: &Timed<B, M, E>) -> bool
+    requires layout { IsLayout B M E }
+    ensures { result ≡ is_full timed.now }
+{
+    let kept = timed.bank().kept();
+    let all = kept.shape().writes as usize;
+    kept.len() >= all && !kept.exhausted() && !timed.regs().halted()
+}
