@@ -1,5 +1,5 @@
 -- What was served along the histories of the banks was told by rows.
-use Rattle.std.proofs.Common.{ℕ, false, List, length, subst}
+use Rattle.std.proofs.Common.{ℕ, Bool, List, length, subst}
 use Rattle.cell_rows.specs.Device.{ArrayState}
 use Rattle.bank_timing.specs.Extending.{outcome_in}
 use Rattle.module_shape.specs.Limits.{IsShape}
@@ -32,17 +32,17 @@ module _ {n m : ℕ} (e : ℕ) (module_ : ModuleState n m e) (array : ArrayState
         end = lost.ends;
       }
 
-  pub in-the-end : SettledLaw → EndedTurnLaw → HasEnded module_.shape module_.seed false asked module_ array places told
-      → PromisesByRows e module_.shape module_.seed asked array places told
-  in-the-end settled turns had = record {
+  pub in-the-end : (off : Bool) → SettledLaw → EndedTurnLaw → HasEnded module_.shape module_.seed off asked module_ array places told
+      → PromisesByRows e module_.shape module_.seed asked array off places told
+  in-the-end off settled turns had = record {
     along = record { told = had.said; rows = by-rows e module_.shape module_.seed moment shape asked had.history had.said had.along };
     rest = had.rest;
     all = had.all;
     order = had.order;
-    in_time = settled n m e module_.shape module_.seed false asked module_ array places told shape had;
+    in_time = settled n m e module_.shape module_.seed off asked module_ array places told shape had;
     in_turn =
         in-turn-by-rows e module_.shape module_.seed moment shape asked had.history had.said had.along (outcome_in (table_of places told))
-        (turns n m e module_.shape module_.seed false asked module_ array places told shape had);
+        (turns n m e module_.shape module_.seed off asked module_ array places told shape had);
     ends = had.ends;
     right = had.right;
   }

@@ -1,5 +1,5 @@
 -- What a session promises of the rows that its calls took, the newest first, said of these rows and of what was told alone.
-use Rattle.std.specs.Prelude.{◌≡◌, ℕ, IsTrue, true, false, List, [], ◌++◌, length}
+use Rattle.std.specs.Prelude.{◌≡◌, ℕ, Bool, IsTrue, true, List, [], ◌++◌, length}
 use Rattle.cell_rows.specs.Device.{ArrayState}
 use Rattle.result_rows.specs.declared.Outcome.{Outcome}
 use Rattle.row_rules.specs.{Rows.each_row, declared.Row.Row}
@@ -29,8 +29,9 @@ module _ {n m : ℕ} (e : ℕ) (raw : RawShape) (seed : ℕ) (asked : List (Aske
     pub ends : ℕ → BankEnd
     pub end : EndsTo e raw seed true (rows_so_far told) array ends
 
-  -- and the banks drained behind them: in the end the rest was told, bank by bank, and by all outcomes the rows are right over the array
-  pub record PromisesByRows (places : ℕ) (told : List (Told n)) : Type 0 where
+  -- and the banks drained behind them, or the power stayed off behind the last of them, a cut: in the end the rest was told, bank by bank, and by all outcomes the
+  -- rows are right over the array
+  pub record PromisesByRows (off : Bool) (places : ℕ) (told : List (Told n)) : Type 0 where
     pub along : RowsTold raw seed asked
     pub rest : List (ℕ × Outcome n)
     pub all : told ≡ along.told ++ became rest
@@ -38,4 +39,4 @@ module _ {n m : ℕ} (e : ℕ) (raw : RawShape) (seed : ℕ) (asked : List (Aske
     pub in_time : SettlesForGood asked places told
     pub in_turn : AreInTurnByRows raw seed asked along.told along.rows (outcome_in (table_of places told))
     pub ends : ℕ → BankEnd
-    pub right : RunsRightTo e raw seed false (rows_of (events_in asked) (table_of places told)) array ends
+    pub right : RunsRightTo e raw seed off (rows_of (events_in asked) (table_of places told)) array ends

@@ -1,5 +1,5 @@
 -- A module that has served nothing.
-use Rattle.std.proofs.Common.{◌≡◌, ℕ, List, [], refl, arith, false, subst, sym}
+use Rattle.std.proofs.Common.{◌≡◌, ℕ, Bool, List, [], refl, arith, false, subst, sym}
 use Rattle.cell_rows.specs.Device.{ArrayState}
 use Rattle.result_rows.specs.declared.Outcome.{Outcome}
 use Rattle.module_shape.specs.declared.raw.RawShape.{RawShape}
@@ -39,8 +39,8 @@ own-serving raw seed asked module_ array rows told shown snaps had =
     subst (λ k. IsServing module_.shape k asked module_ array rows told shown snaps) (sym had.served.seeded)
     (subst (λ r. IsServing r seed asked module_ array rows told shown snaps) (sym had.served.shape) had)
 
-pub own-ended : {n m e : ℕ} (raw : RawShape) (seed : ℕ) (asked : List (Asked n)) (module_ : ModuleState n m e) (array : ArrayState n m) (rows : ℕ) (told : List (Told n))
-    → HasEnded raw seed false asked module_ array rows told → HasEnded module_.shape module_.seed false asked module_ array rows told
-own-ended raw seed asked module_ array rows told had =
-    subst (λ k. HasEnded module_.shape k false asked module_ array rows told) (sym had.seeded)
-    (subst (λ r. HasEnded r seed false asked module_ array rows told) (sym had.shape) had)
+pub own-ended : {n m e : ℕ} (raw : RawShape) (seed : ℕ) (off : Bool) (asked : List (Asked n)) (module_ : ModuleState n m e) (array : ArrayState n m) (rows : ℕ) (told : List (Told n))
+    → HasEnded raw seed off asked module_ array rows told → HasEnded module_.shape module_.seed off asked module_ array rows told
+own-ended raw seed off asked module_ array rows told had =
+    subst (λ k. HasEnded module_.shape k off asked module_ array rows told) (sym had.seeded)
+    (subst (λ r. HasEnded r seed off asked module_ array rows told) (sym had.shape) had)

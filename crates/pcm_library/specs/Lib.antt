@@ -1,3 +1,4 @@
 pub mod Items
 pub mod Keeping
 pub mod Serving
+pub mod Answers

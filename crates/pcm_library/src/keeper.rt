@@ -1,5 +1,6 @@
 // What keeps outcomes until they are taken.
-ghost use Rattle.std.specs.Prelude.{◌≡◌, ◌+◌, ◌<◌, ◌≤◌, [], ◌∷◌, ◌++◌, Some, IfOk, IsTrue, is_some, length, true, false, option_to_list};
+ghost use Rattle.std.specs.Prelude.{◌≡◌, ◌+◌, ◌<◌, ◌≤◌, [], ◌∷◌, ◌++◌, Some, IfOk, OnErr, OnOk, IsTrue, is_some, length, option_to_list};
+ghost use Rattle.std.specs.VecDeque.{deque_capacity, deque_len};
 ghost use Rattle.result_rows.specs.declared.Outcome.TheVariants.{Unset};
 ghost use Rattle.result_rows.specs.Outcomes.{op_of};
 ghost use Rattle.result_rows.specs.Table.{HasRow, outcome_at, with_outcome};
@@ -7,7 +8,7 @@ ghost use Rattle.row_printer.specs.Printing.{table_told};
 ghost use Rattle.row_printer.specs.Telling.{outcomes_in, TellsOnce};
 ghost use Rattle.row_printer.specs.declared.told.Shown.TheVariants.{Nothing};
 ghost use Rattle.row_printer.specs.declared.told.Told.TheVariants.{Settled};
-ghost use Rattle.pcm_library.specs.Keeping.{IsToldTo, KeepsOn, kept_of};
+ghost use Rattle.pcm_library.specs.Keeping.{IsToldTo, KeepsOn, kept_of, open_in};
 
 use crate::list::GhostList;
 use result_rows::{Outcome, Outcomes};
@@ -24,13 +25,17 @@ pub struct Kept<const B: usize> {
     pub outcome: Outcome<B>,
 }
 
-/// Keeps outcomes, in the order in which they are told, until they are taken. Where there is no memory for one it is lost, and this is told.
+/// Keeps outcomes, in the order in which they are told, until they are taken. A row comes only where there is room for its outcome, so none
+/// is lost.
 #[derive(Drop)]
 pub struct Keeper<const B: usize> {
     waiting: VecDeque<Kept<B>>,
-    lost: bool,
+    // So many have room from the beginning.
+    room: usize,
     // How many rows came.
     rows: u32,
+    // How many of them have no outcome yet.
+    untold: u32,
     // For contracts alone: one byte each.
     told: GhostList<Told<B>>,
     taken: GhostList<Kept<B>>,
@@ -38,6 +43,7 @@ pub struct Keeper<const B: usize> {
 
 impl<const B: usize> Model for Keeper<B> {
     ghost use Rattle.std.specs.Prelude.{[], false};
+    ghost use Rattle.std.specs.VecDeque.{deque_capacity};
     ghost use Rattle.row_printer.specs.Printing.{Printing};
     ghost use Rattle.row_printer.specs.declared.told.Shown.TheVariants.{Nothing};
     ghost use Rattle.pcm_io.specs.Reserved.{reserved};
@@ -48,7 +54,7 @@ impl<const B: usize> Model for Keeper<B> {
     ghost Value = { Printing B (Waiting B) };
 
     ghost view = { λ k. record {
-      sink = record { taken = items k.taken; waiting = k.waiting.items; lost = k.lost; };
+      sink = record { taken = items k.taken; waiting = k.waiting.items; room = k.room };
       text = reserved 0;
       told = items k.told;
       snapshots = [];
@@ -57,34 +63,23 @@ impl<const B: usize> Model for Keeper<B> {
       broken = false;
     } };
 
-    ghost invariant = { λ k. IsKept {n = B} k.lost k.rows (items k.told) (items k.taken)
-        k.waiting.items };
+    ghost invariant = { λ k. IsKept {n = B} (deque_capacity k.waiting) k.untold k.rows
+        (items k.told)
+        (record { taken = items k.taken; waiting = k.waiting.items; room = k.room }) };
 }
 
-// Puts an outcome behind those that wait, where there is memory for it.
-fn push<const B: usize>(waiting: &mut VecDeque<Kept<B>>, row: u32, outcome: &Outcome<B>) -> bool
-    requires { B ≤ 128 }
-    ensures { result ≡ true
-        → waiting.new.items ≡ waiting.old.items ++ kept_of row outcome.now ∷ [] }
+// Puts an outcome behind those that wait.
+fn keep<const B: usize>(waiting: &mut VecDeque<Kept<B>>, row: u32, outcome: &Outcome<B>)
+    requires few { B ≤ 128 }
+    requires room { deque_len waiting.old < deque_capacity waiting.old }
+    ensures items { waiting.new.items ≡ waiting.old.items ++ kept_of row outcome.now ∷ [] }
+    ensures capacity { deque_capacity waiting.new ≡ deque_capacity waiting.old }
 {
     let kept = Kept {
         row,
         outcome: *outcome,
     };
-    match waiting.push_back(kept) {
-        Ok(()) => true,
-        Err(_) => false,
-    }
-}
-
-// Whether an outcome was lost, now or before.
-fn loses(lost: bool, had_room: bool) -> bool
-    ensures { result ≡ false → (lost ≡ false) × (had_room ≡ true) }
-{
-    if lost {
-        return true;
-    }
-    !had_room
+    waiting.push_back_reserved(kept);
 }
 
 impl<const B: usize> Keeper<B> {
@@ -96,28 +91,35 @@ impl<const B: usize> Keeper<B> {
         ensures snapshots { IfOk result (λ k. k.snapshots ≡ []) }
         ensures taken { IfOk result (λ k. k.sink.taken ≡ []) }
         ensures waiting { IfOk result (λ k. k.sink.waiting ≡ []) }
-        ensures lost { IfOk result (λ k. k.sink.lost ≡ false) }
+        ensures room { IfOk result (λ k. k.sink.room ≡ room) }
     {
         Ok(Keeper {
             waiting: VecDeque::with_capacity(alloc, room)?,
-            lost: false,
+            room,
             rows: 0,
+            untold: 0,
             told: GhostList::new(),
             taken: GhostList::new(),
         })
     }
 
-    /// One row more came: it is open until its outcome is told.
-    pub fn add_row(&mut self)
+    /// One row more came, where there is memory for its outcome: it is open until that is told.
+    pub fn add_row(&mut self) -> Result<(), AllocError>
         requires few { self.old.rows < 4294967295 }
-        ensures rows { self.new.rows ≡ self.old.rows + 1 }
+        ensures rows { OnOk result (self.new.rows ≡ self.old.rows + 1) }
         ensures told { self.new.told ≡ self.old.told }
         ensures snapshots { self.new.snapshots ≡ self.old.snapshots }
         ensures prints { self.new.prints ≡ self.old.prints }
         ensures sink { self.new.sink ≡ self.old.sink }
-        ensures table { table_told self.new ≡ table_told self.old ++ Unset ∷ [] }
+        ensures table { OnOk result (table_told self.new ≡ table_told self.old ++ Unset ∷ []) }
+        ensures rest { OnErr result (self.new ≡ self.old) }
+        ensures full { OnErr result (self.old.sink.room
+            ≤ length self.old.sink.waiting + open_in self.old) }
     {
+        self.waiting.reserve(self.untold as usize + 1)?;
         self.rows += 1;
+        self.untold += 1;
+        Ok(())
     }
 
     /// Every bank has come to a tick.
@@ -139,7 +141,7 @@ impl<const B: usize> Keeper<B> {
         ensures prints { self.new.prints ≡ self.old.prints }
         ensures taken { self.new.sink.taken ≡ self.old.sink.taken ++ option_to_list result }
         ensures waiting { self.old.sink.waiting ≡ option_to_list result ++ self.new.sink.waiting }
-        ensures lost { self.new.sink.lost ≡ self.old.sink.lost }
+        ensures room { self.new.sink.room ≡ self.old.sink.room }
     {
         match self.waiting.pop_front() {
             Some(kept) => {
@@ -150,7 +152,7 @@ impl<const B: usize> Keeper<B> {
         }
     }
 
-    /// No row was told twice, nothing is printed, and where no outcome was lost, what was told is what was taken and what waits.
+    /// No row was told twice, nothing is printed, and what was told is what was taken and what waits.
     pub fn tells_once(&self)
         ensures once { TellsOnce self.now.rows (outcomes_in self.now.told) }
         ensures prints { self.now.prints ≡ Nothing }
@@ -173,13 +175,6 @@ impl<const B: usize> Keeper<B> {
     {
         self.rows
     }
-
-    /// Whether an outcome was lost, since there was no memory for it.
-    pub fn lost(&self) -> bool
-        ensures { result ≡ self.now.sink.lost }
-    {
-        self.lost
-    }
 }
 
 impl<const B: usize> Outcomes<B> for Keeper<B> {
@@ -200,8 +195,8 @@ impl<const B: usize> Outcomes<B> for Keeper<B> {
         ensures table { table_told self.new ≡ with_outcome (table_told self.old) row outcome.entry }
         ensures goes_on { KeepsOn self.old self.new }
     {
-        let had_room = push(&mut self.waiting, row, &outcome);
-        self.lost = loses(self.lost, had_room);
+        keep(&mut self.waiting, row, &outcome);
+        self.untold -= 1;
         self.told = self.told.and(&Told::Became(row, outcome));
     }
 }

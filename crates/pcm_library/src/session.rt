@@ -1,31 +1,32 @@
 // A module that another program calls.
-ghost use Rattle.std.specs.Prelude.{◌≡◌, ◌≢◌, ◌≤◌, ◌<◌, ◌++◌, [], ◌∷◌, IfOk, IfSome, None, length, true, false, option_to_list};
+ghost use Rattle.std.specs.Prelude.{◌≡◌, ◌≢◌, ◌≤◌, ◌&&◌, ◌+◌, ◌++◌, [], ◌∷◌, ℕ, IfOk, None, if◌then◌else◌, length, nat_le, true, false, option_to_list};
 ghost use Rattle.cell_rows.specs.Device.{IsWear};
 ghost use Rattle.ecp_line.specs.Layout.{IsLayout};
 ghost use Rattle.bank_shape.specs.declared.Home.TheVariants.{Array};
 ghost use Rattle.trace_reader.specs.Events.{IsEventFor, IsOpFor};
 ghost use Rattle.trace_reader.specs.Rows.{latest_tick};
+ghost use Rattle.module_shape.specs.declared.raw.RawShape.{RawShape};
 ghost use Rattle.module_shape.specs.Limits.{IsShape, total_of};
 ghost use Rattle.trace_stream.specs.declared.asked.Asked.TheVariants.{Happens, Settle, Until as Waits};
-ghost use Rattle.pcm_module.specs.State.{bank_at};
-ghost use Rattle.row_stream.specs.Answering.{backlog_of};
-ghost use Rattle.row_stream.specs.Serving.{ServesOn, told_so_far};
-ghost use Rattle.row_stream.specs.Ending.{IsLeft, told_along};
+ghost use Rattle.row_stream.specs.declared.stop.Behind.TheVariants.{Off};
+ghost use Rattle.row_stream.specs.Asking.{behind_of, cut_at_end, cut_behind, stays_off, with_cut};
+ghost use Rattle.row_stream.specs.Serving.{IsServing, ServesOn, told_before, told_so_far};
+ghost use Rattle.row_stream.specs.Ending.{IsLeft, told_along, without_cut};
+ghost use Rattle.pcm_library.specs.Answers.{Answers, StopAnswers, answer_by, refusal_behind, refusal_of_row, refusal_of_tick, refusal_to_wait};
 ghost use Rattle.pcm_library.specs.Keeping.{IsToldTo};
-ghost use Rattle.pcm_library.specs.Serving.{HasDrained, HasServedRows};
+ghost use Rattle.pcm_library.specs.Serving.{HasEndedRows, HasServedRows, most_open};
 
 use crate::keeper::{Keeper, Kept};
 use crate::list::GhostList;
-use crate::looking::look_at;
-use crate::serving::{drain, serve_event, serve_settle};
+use crate::serving::{drain, serve_event, serve_settle, stay_off};
 use crate::waiting::serve_until;
 use cell_rows::{CellArray, Wear};
 use module_shape::Shape;
 use pcm_module::Module;
-use row_printer::Backlog;
+use row_stream::{Behind, behind_asked};
 use std::alloc::{AllocError, Global};
 use std::marker::Model;
-use trace_reader::Event;
+use trace_reader::{Event, EventOp};
 use trace_stream::{Asked, Until};
 
 /// The last tick at which a row may come.
@@ -34,10 +35,7 @@ const LAST_TICK: u64 = 1_099_511_627_776;
 /// The number of the last row.
 const LAST_ROW: u32 = 4_294_967_294;
 
-// So many outcomes have room from the beginning.
-const ROOM: usize = 64;
-
-/// What a call answers.
+/// What a call answers. Behind each answer but `Done` all is as it was.
 #[derive(Clone, Copy, PartialEq, Eq)]
 pub enum Answer {
     /// It is done.
@@ -50,26 +48,31 @@ pub enum Answer {
     TooMany,
     /// The module was finished before.
     Ended,
-    /// An outcome was lost, since there was no memory for it.
-    Lost,
+    /// There is no memory for the outcome of one row more.
+    NoMemory,
     /// No such row came.
     NoRow,
+    /// A masked write gives no byte.
+    NoBytes,
 }
 
 /// A module over its array, and what became of the rows that came and wasn't taken yet.
 #[derive(Drop)]
 pub struct Session<const B: usize, const M: usize, const E: usize, A: CellArray<B, M> + Drop> {
-    module: Module<B, M, E>,
-    array: A,
-    kept: Keeper<B>,
+    pub(crate) module: Module<B, M, E>,
+    pub(crate) array: A,
+    pub(crate) kept: Keeper<B>,
+    // Whether a power cut came last.
+    behind: Behind,
     finished: bool,
+    // Whether the power stayed off in the end.
+    off: bool,
     // For contracts alone: one byte.
     asked: GhostList<Asked<B>>,
 }
 
 impl<const B: usize, const M: usize, const E: usize, A: CellArray<B, M> + Drop> Model
-    for Session<B, M, E, A>
-{
+    for Session<B, M, E, A> {
     ghost use Rattle.pcm_library.specs.Items.{newest};
     ghost use Rattle.pcm_library.specs.Serving.{Serving, IsSession};
 
@@ -80,12 +83,27 @@ impl<const B: usize, const M: usize, const E: usize, A: CellArray<B, M> + Drop> 
       array = s.array;
       kept = s.kept;
       asked = newest s.asked;
+      off = s.off;
     } };
 
-    ghost invariant = { λ s. IsSession s.module (A.state s.array) s.kept (newest s.asked) s.finished };
+    ghost invariant = { λ s. IsSession s.module (A.state s.array) s.kept (newest s.asked)
+        s.finished s.off s.behind };
 }
 
-impl<const B: usize, const M: usize, const E: usize, A: CellArray<B, M> + Drop> Session<B, M, E, A> {
+// Room for as many outcomes as one call can tell: of what stands in the banks, and of its own row.
+fn room_for(shape: &Shape) -> usize
+    ensures { result ≡ most_open shape.now + 1 }
+{
+    let raw = shape.raw();
+    raw.banks as usize * (raw.writes as usize + raw.reads as usize) + 1
+}
+
+impl<const B: usize, const M: usize, const E: usize, A: CellArray<B, M> + Drop> Session<
+    B,
+    M,
+    E,
+    A,
+> {
     /// A module of these sizes over an array that is powered up.
     pub fn new(
         alloc: Global,
@@ -100,32 +118,32 @@ impl<const B: usize, const M: usize, const E: usize, A: CellArray<B, M> + Drop> 
         ensures shape { IfOk result (λ s. (s.module_.shape ≡ shape) × (s.module_.seed ≡ seed)) }
         ensures waiting { IfOk result (λ s. (s.kept.sink.taken ≡ []) × (s.kept.sink.waiting ≡ [])) }
         ensures asked { IfOk result (λ s. (s.asked ≡ []) × (s.module_.finished ≡ false)) }
+        ensures ticks { IfOk result (λ s. (s.module_.tick ≡ 0) × (s.kept.rows ≡ 0)) }
     {
         let mut array = array;
         array.power_up(alloc, shape.array_lines(), wear)?;
         let module = Module::new(alloc, shape, seed)?;
-        let kept = Keeper::new(alloc, ROOM)?;
+        let kept = Keeper::new(alloc, room_for(&shape))?;
         let asked = GhostList::new();
         Ok(Session {
             module,
             array,
             kept,
+            behind: Behind::Nothing,
             finished: false,
+            off: false,
             asked,
         })
     }
 
     // Why the module may not come to a tick, if so it is.
     fn may_come(&self, tick: u64) -> Option<Answer>
+        ensures exact { result ≡ refusal_of_tick self.now tick }
         ensures may { result ≡ None → (self.now.module_.finished ≡ false)
             × (self.now.module_.tick ≤ tick) × (tick ≤ latest_tick) }
-        ensures refused { IfSome result (λ answer. answer ≢ Answer.Done) }
     {
         if self.finished {
             return Some(Answer::Ended);
-        }
-        if self.kept.lost() {
-            return Some(Answer::Lost);
         }
         if tick < self.module.tick() || tick > LAST_TICK {
             return Some(Answer::Late);
@@ -136,6 +154,7 @@ impl<const B: usize, const M: usize, const E: usize, A: CellArray<B, M> + Drop> 
     /// A row comes, whose line is one of the module's.
     pub fn event(&mut self, event: &Event<B>) -> Answer
         requires op { IsOpFor (total_of self.old.module_.shape) event.now.op }
+        ensures answer { Answers self.old (refusal_of_row self.old event.now.tick) result }
         ensures asked { result ≡ Answer.Done → self.new.asked ≡ Happens event.now ∷ self.old.asked }
         ensures serves { result ≡ Answer.Done → ServesOn (λ before. Happens event.now)
             self.old.module_ self.new.module_ (A.state self.old.array) (A.state self.new.array)
@@ -153,6 +172,8 @@ impl<const B: usize, const M: usize, const E: usize, A: CellArray<B, M> + Drop> 
     fn take(&mut self, event: &Event<B>) -> Answer
         requires going { self.old.module_.finished ≡ false }
         requires lawful { IsEventFor (total_of self.old.module_.shape) self.old.module_.tick event.now }
+        ensures answer { Answers self.old (refusal_behind self.old.kept.rows) result }
+        ensures going { self.new.module_.finished ≡ self.old.module_.finished }
         ensures asked { result ≡ Answer.Done → self.new.asked ≡ Happens event.now ∷ self.old.asked }
         ensures serves { result ≡ Answer.Done → ServesOn (λ before. Happens event.now)
             self.old.module_ self.new.module_ (A.state self.old.array) (A.state self.new.array)
@@ -163,13 +184,23 @@ impl<const B: usize, const M: usize, const E: usize, A: CellArray<B, M> + Drop> 
         if self.kept.rows() >= LAST_ROW {
             return Answer::TooMany;
         }
-        serve_event(&mut self.module, &mut self.array, event, &mut self.kept);
-        self.asked = self.asked.and(&Asked::Happens(*event));
-        Answer::Done
+        // What is true of each makes known that the banks have a place for each row without an outcome.
+        let _ = self.module.shape();
+        self.kept.tells_once();
+        match serve_event(&mut self.module, &mut self.array, event, &mut self.kept) {
+            Ok(()) => {
+                let asked = Asked::Happens(*event);
+                self.behind = behind_asked(&asked);
+                self.asked = self.asked.and(&asked);
+                Answer::Done
+            }
+            Err(_) => Answer::NoMemory,
+        }
     }
 
     /// Every bank is brought to a tick.
     pub fn settle(&mut self, tick: u64) -> Answer
+        ensures answer { result ≡ answer_by (refusal_of_tick self.old tick) }
         ensures asked { result ≡ Answer.Done → self.new.asked ≡ Settle tick ∷ self.old.asked }
         ensures serves { result ≡ Answer.Done → ServesOn (λ before. Settle tick)
             self.old.module_ self.new.module_ (A.state self.old.array) (A.state self.new.array)
@@ -198,21 +229,21 @@ impl<const B: usize, const M: usize, const E: usize, A: CellArray<B, M> + Drop> 
         ensures taken { self.new.kept.sink.taken ≡ self.old.kept.sink.taken }
     {
         serve_settle(&mut self.module, &mut self.array, tick, &mut self.kept);
+        self.behind = Behind::Going;
         self.asked = self.asked.and(&Asked::Settle(tick));
     }
 
     // Whether a row of this number came.
     fn has_row(&self, row: u32) -> bool
-        ensures { result ≡ true → (1 ≤ row) × (row ≤ self.now.kept.rows) }
+        ensures { result ≡ (nat_le 1 row && nat_le row self.now.kept.rows) }
     {
-        if row == 0 {
-            return false;
-        }
-        row <= self.kept.rows()
+        1 <= row && row <= self.kept.rows()
     }
 
     /// Every bank goes on until a row has its outcome, at most to a tick: `tick` tells how far they came.
     pub fn settle_until(&mut self, row: u32, limit: u64) -> Answer
+        ensures answer { result ≡ answer_by (refusal_to_wait self.old.kept.rows row
+            (refusal_of_tick self.old limit)) }
         ensures asked { result ≡ Answer.Done → self.new.asked ≡ Waits (record {
           row = row;
           limit = limit;
@@ -270,32 +301,16 @@ impl<const B: usize, const M: usize, const E: usize, A: CellArray<B, M> + Drop> 
             limit,
             reached,
         };
+        self.behind = Behind::Going;
         self.asked = self.asked.and(&Asked::Until(waited));
-    }
-
-    /// The tick that was reached.
-    pub fn tick(&self) -> u64
-        ensures { result ≡ self.now.module_.tick }
-    {
-        self.module.tick()
-    }
-
-    /// What waits in a bank, where there is such a bank.
-    pub fn waits(&self, bank: u32) -> Option<Backlog>
-        ensures some { IfSome result (λ backlog.
-            backlog ≡ backlog_of bank (bank_at self.now.module_ bank)) }
-        ensures none { result ≡ None → self.now.module_.shape.banks ≤ bank }
-    {
-        if bank >= self.module.shape().banks() {
-            return None;
-        }
-        Some(look_at(&self.module, bank))
     }
 
     /// No more rows come: each bank is drained.
     pub fn finish(&mut self) -> Answer
+        ensures answer { result ≡ (if self.old.module_.finished then Answer.Ended else Answer.Done) }
         ensures finished { result ≡ Answer.Done → self.new.module_.finished ≡ true }
         ensures asked { self.new.asked ≡ self.old.asked }
+        ensures off { result ≡ Answer.Done → self.new.off ≡ false }
         ensures ended { result ≡ Answer.Done
             → (had : HasServedRows self.old.module_ (A.state self.old.array) self.old.kept
             self.old.asked)
@@ -311,7 +326,92 @@ impl<const B: usize, const M: usize, const E: usize, A: CellArray<B, M> + Drop> 
         }
         drain(&mut self.module, &mut self.array, &mut self.kept);
         self.finished = true;
+        self.off = false;
         Answer::Done
+    }
+
+    /// No more rows come, and the power stays off: it is cut at the tick that was reached, where the last row wasn't a cut, and no bank
+    /// goes on. Where nothing was asked there is nothing to cut.
+    pub fn stop(&mut self) -> Answer
+        ensures answer { StopAnswers self.old result }
+        ensures finished { result ≡ Answer.Done → self.new.module_.finished ≡ true }
+        ensures asked { result ≡ Answer.Done → self.new.asked ≡ with_cut true self.old.asked }
+        ensures off { result ≡ Answer.Done → self.new.off ≡ stays_off true self.old.asked }
+        ensures ended { result ≡ Answer.Done
+            → (had : HasServedRows self.old.module_ (A.state self.old.array) self.old.kept
+            self.old.asked)
+            → (left : IsLeft self.old.module_.shape self.old.module_.seed
+            (stays_off true self.old.asked) (with_cut true self.old.asked)
+            self.new.module_ (A.state self.new.array)
+            self.new.kept.rows self.new.kept.told self.new.kept.prints self.new.kept.snapshots)
+            × (without_cut true self.old.asked (told_along left.0) ≡ told_so_far had) }
+        ensures taken { self.new.kept.sink.taken ≡ self.old.kept.sink.taken }
+        ensures rest { result ≢ Answer.Done → self.new ≡ self.old }
+    {
+        if self.finished {
+            return Answer::Ended;
+        }
+        match self.behind {
+            Behind::Nothing => self.finish(),
+            Behind::Going => self.stop_by_cut(),
+            Behind::Off => {
+                self.stay_off();
+                Answer::Done
+            }
+        }
+    }
+
+    // The power is cut at the tick that was reached, and stays off.
+    fn stop_by_cut(&mut self) -> Answer
+        requires going { self.old.module_.finished ≡ false }
+        ensures answer { Answers self.old (refusal_behind self.old.kept.rows) result }
+        ensures finished { result ≡ Answer.Done → self.new.module_.finished ≡ true }
+        ensures asked { result ≡ Answer.Done
+            → self.new.asked ≡ cut_at_end self.old.asked ∷ self.old.asked }
+        ensures off { result ≡ Answer.Done → self.new.off ≡ true }
+        ensures ended { result ≡ Answer.Done → (raw : RawShape) (seed : ℕ)
+            (had : IsServing raw seed self.old.asked self.old.module_ (A.state self.old.array)
+            self.old.kept.rows self.old.kept.told self.old.kept.prints self.old.kept.snapshots)
+            → (left : IsLeft raw seed true (cut_behind self.old.asked) self.new.module_
+            (A.state self.new.array)
+            self.new.kept.rows self.new.kept.told self.new.kept.prints self.new.kept.snapshots)
+            × (told_before (cut_at_end self.old.asked) self.old.asked (told_along left.0)
+            ≡ told_so_far had) }
+        ensures taken { self.new.kept.sink.taken ≡ self.old.kept.sink.taken }
+        ensures rest { result ≢ Answer.Done → self.new ≡ self.old }
+    {
+        let event = Event {
+            tick: self.module.tick(),
+            op: EventOp::Cut,
+        };
+        match self.take(&event) {
+            Answer::Done => {
+                self.stay_off();
+                Answer::Done
+            }
+            refused => refused,
+        }
+    }
+
+    // The power stays off behind a cut.
+    fn stay_off(&mut self)
+        requires going { self.old.module_.finished ≡ false }
+        requires cut { behind_of self.old.asked ≡ Off }
+        ensures finished { self.new.module_.finished ≡ true }
+        ensures asked { self.new.asked ≡ self.old.asked }
+        ensures off { self.new.off ≡ true }
+        ensures ended { (raw : RawShape) (seed : ℕ)
+            (had : IsServing raw seed self.old.asked self.old.module_ (A.state self.old.array)
+            self.old.kept.rows self.old.kept.told self.old.kept.prints self.old.kept.snapshots)
+            → (left : IsLeft raw seed true self.old.asked self.new.module_
+            (A.state self.new.array)
+            self.new.kept.rows self.new.kept.told self.new.kept.prints self.new.kept.snapshots)
+            × (told_along left.0 ≡ told_so_far had) }
+        ensures taken { self.new.kept.sink.taken ≡ self.old.kept.sink.taken }
+    {
+        stay_off(&mut self.module, &self.array, &mut self.kept);
+        self.finished = true;
+        self.off = true;
     }
 
     /// Takes the first outcome that waits.
@@ -326,43 +426,22 @@ impl<const B: usize, const M: usize, const E: usize, A: CellArray<B, M> + Drop> 
             ≡ self.old.kept.sink.taken ++ option_to_list result }
         ensures waiting { self.old.kept.sink.waiting
             ≡ option_to_list result ++ self.new.kept.sink.waiting }
-        ensures lost { self.new.kept.sink.lost ≡ self.old.kept.sink.lost }
         ensures rows { self.new.kept.rows ≡ self.old.kept.rows }
+        ensures off { self.new.off ≡ self.old.off }
     {
         self.kept.next()
     }
 
-    /// All rows that were asked were served and told so, and what was told was taken or waits.
+    /// All rows that were asked were served and told so, and what was told was taken or waits: nothing was lost.
     pub fn tells_all(&self)
         ensures serving { self.now.module_.finished ≡ false → HasServedRows self.now.module_
             (A.state self.now.array) self.now.kept self.now.asked }
-        ensures ended { self.now.module_.finished ≡ true → HasDrained self.now.module_
-            (A.state self.now.array) self.now.kept self.now.asked }
+        ensures ended { self.now.module_.finished ≡ true → HasEndedRows self.now.module_
+            (A.state self.now.array) self.now.kept self.now.asked self.now.off }
         ensures told { IsToldTo self.now.kept.told self.now.kept.sink }
         ensures shape { IsShape self.now.module_.shape }
     {
         let _ = self.module.shape();
         self.kept.tells_once();
-    }
-
-    /// How many outcomes wait.
-    pub fn waiting(&self) -> usize
-        ensures { result ≡ length self.now.kept.sink.waiting }
-    {
-        self.kept.waiting()
-    }
-
-    /// How many rows came.
-    pub fn rows(&self) -> u32
-        ensures { result ≡ self.now.kept.rows }
-    {
-        self.kept.rows()
-    }
-
-    /// How many lines the module has.
-    pub fn lines(&self) -> u32
-        ensures { result ≡ total_of self.now.module_.shape }
-    {
-        self.module.shape().total()
     }
 }

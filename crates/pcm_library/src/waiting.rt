@@ -31,7 +31,9 @@ pub(crate) fn serve_until<const B: usize, const M: usize, const E: usize, A: Cel
       reached = pcm.new.tick;
     })) pcm.old pcm.new (A.state array.old) (A.state array.new) out.old out.new }
     ensures going { pcm.new.finished ≡ false }
+    ensures shape { pcm.new.shape ≡ pcm.old.shape }
     ensures taken { out.new.sink.taken ≡ out.old.sink.taken }
+    ensures room { out.new.sink.room ≡ out.old.sink.room }
 {
     // Its sizes make known that each line's bank is one of the module's.
     let _ = pcm.shape();

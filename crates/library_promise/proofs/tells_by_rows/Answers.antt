@@ -10,5 +10,5 @@ returns-clause-so_far g c = λ going.
 pub returns-clause-ended : goal.returns-clause-ended
 returns-clause-ended g c = λ finished.
     let s = c.args.session.now in
-    in-the-end g.row.E s.module_ (g.A.CellArray.state s.array) s.asked s.kept.rows s.kept.told c.no_moment_loses_bytes.ensures c.tells_all.ensures.shape
+    in-the-end g.row.E s.module_ (g.A.CellArray.state s.array) s.asked s.kept.rows s.kept.told c.no_moment_loses_bytes.ensures c.tells_all.ensures.shape s.off
     c.what_is_told_by_a_settle_stays.ensures c.outcomes_are_told_in_turn.ensures (c.tells_all.ensures.ended finished)

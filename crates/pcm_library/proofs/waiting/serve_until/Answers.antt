@@ -41,6 +41,8 @@ waits-init g c =
       prints = on.prints;
       snapshots = on.snapshots;
       taken = e.goes_on.taken;
+      room = e.goes_on.room;
+      shape = e.shape;
       going = e.going;
       wear = e.stays.wear;
     }
@@ -122,6 +124,8 @@ waits-preserved g c =
       prints = on.prints ∙ inv.prints;
       snapshots = on.snapshots ∙ inv.snapshots;
       taken = e.goes_on.taken ∙ inv.taken;
+      room = e.goes_on.room ∙ inv.room;
+      shape = e.shape ∙ inv.shape;
       going = e.going;
       wear = e.stays.wear ∙ inv.wear;
     }
@@ -163,3 +167,9 @@ returns-clause-going g c = c.waits.invariant.going
 
 pub returns-clause-taken : goal.returns-clause-taken
 returns-clause-taken g c = ap (λ s. s.taken) c.settled.ensures.sink ∙ c.waits.invariant.taken
+
+pub returns-clause-room : goal.returns-clause-room
+returns-clause-room g c = ap (λ s. s.room) c.settled.ensures.sink ∙ c.waits.invariant.room
+
+pub returns-clause-shape : goal.returns-clause-shape
+returns-clause-shape g c = c.waits.invariant.shape

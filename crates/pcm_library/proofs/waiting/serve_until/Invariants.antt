@@ -22,6 +22,8 @@ invariant-waits g l = record {
   prints : l.out.prints ≡ l.fn.out.prints;
   snapshots : l.out.snapshots ≡ l.fn.out.snapshots;
   taken : l.out.sink.taken ≡ l.fn.out.sink.taken;
+  room : l.out.sink.room ≡ l.fn.out.sink.room;
+  shape : l.pcm.shape ≡ l.fn.pcm.shape;
   going : l.pcm.finished ≡ false;
   wear : (g.A.CellArray.state l.array).wear ≡ (g.A.CellArray.state l.fn.array).wear;
 }

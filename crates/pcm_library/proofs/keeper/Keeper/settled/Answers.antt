@@ -9,5 +9,8 @@ invariant_of-self g c =
     rw c.and.ensures.items (record {
       few = c.self.invariant.few;
       once = rw same c.self.invariant.once;
-      whole = λ kept. same ∙ c.self.invariant.whole kept;
+      counted = rw same c.self.invariant.counted;
+      fits = c.self.invariant.fits;
+      least = c.self.invariant.least;
+      whole = same ∙ c.self.invariant.whole;
     })

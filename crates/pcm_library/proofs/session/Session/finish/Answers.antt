@@ -1,7 +1,8 @@
-use Rattle.std.proofs.Common.{◌≡◌, false, sym, subst, arith}
+use Rattle.std.proofs.Common.{◌≡◌, false, sym, subst, arith, ◌+◌, ◌∙◌, ap}
 use Rattle.std.proofs.lemmas.Bool.{false≢true}
 use Rattle.row_stream.specs.{Ending.{IsLeft, told_along}, Serving.told_so_far}
-use Rattle.pcm_library.{specs.Items.newest, specs.Serving.{HasServedRows, Serving}, proofs.Beginning.own-ended}
+use Rattle.module_shape.specs.declared.raw.RawShape.{RawShape}
+use Rattle.pcm_library.{specs.Items.newest, specs.Serving.{HasServedRows, Serving, most_open}, proofs.Beginning.own-ended}
 use Rattle.pcm_library.proofs.session.Session.finish.Goals as goal
 
 pub drain-requires : goal.drain-requires
@@ -19,8 +20,10 @@ invariant_of-self g c =
     record {
       layout = c.self.invariant.layout;
       going = c.drain.ensures.finished;
+      stands = c.self.invariant.stands;
+      room = c.drain.ensures.room ∙ c.self.invariant.room ∙ ap (λ (s : RawShape). most_open s + 1) (sym c.drain.ensures.shape);
       serving = λ on. absurd (false≢true (sym on));
-      ended = λ is. own-ended inside.module.shape inside.module.seed asked c.drain.new.pcm array out.rows out.told left.0.0;
+      ended = λ is. own-ended inside.module.shape inside.module.seed false asked c.drain.new.pcm array out.rows out.told left.0.0;
     }
 
 pub returns-clause-ended : goal.returns-clause-ended

@@ -1,8 +1,9 @@
-use Rattle.std.proofs.Common.{ℕ, [], subst}
+use Rattle.std.proofs.Common.{ℕ, ◌+◌, [], refl, sym, ap, ◌∙◌, subst}
 use Rattle.std.proofs.lemmas.Bool.{false≢true}
 use Rattle.cell_rows.specs.Device.{IsFresh}
 use Rattle.bank_timing.proofs.Sizes.{timed_fits}
-use Rattle.pcm_library.proofs.Beginning.{begins-serving, own-serving}
+use Rattle.module_shape.specs.declared.raw.RawShape.{RawShape}
+use Rattle.pcm_library.{specs.Serving.most_open, proofs.Beginning.{begins-serving, own-serving}}
 use Rattle.pcm_library.proofs.session.Session.new.Goals as goal
 
 pub drop-module-inside-requires-room-T-Destruct : goal.drop-module-inside-requires-room-T-Destruct
@@ -19,6 +20,8 @@ invariant_of-result g c =
     rw c.new-asked.ensures.newest (record {
       layout = c.requires.layout;
       going = made.4;
+      stands = refl;
+      room = kept.room ∙ c.room_for.ensures ∙ ap (λ (s : RawShape). most_open s + 1) (sym made.0);
       serving = λ going.
           own-serving c.args.shape c.args.seed [] c.in_ok-module.module array of.rows of.told of.prints of.snapshots
           (begins-serving c.args.shape c.args.seed c.in_ok-module.module array of.rows of.told of.prints of.snapshots

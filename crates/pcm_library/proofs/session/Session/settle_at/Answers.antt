@@ -1,7 +1,8 @@
-use Rattle.std.proofs.Common.{◌∷◌, sym, ◌∙◌, arith}
+use Rattle.std.proofs.Common.{refl, ◌∷◌, sym, ◌∙◌, arith, ◌+◌, ap}
 use Rattle.std.proofs.lemmas.Bool.{false≢true}
 use Rattle.trace_stream.specs.declared.asked.Asked.TheVariants.{Settle}
-use Rattle.pcm_library.{specs.Items.newest, proofs.Beginning.own-serving}
+use Rattle.module_shape.specs.declared.raw.RawShape.{RawShape}
+use Rattle.pcm_library.{specs.Items.newest, specs.Serving.most_open, proofs.Beginning.own-serving}
 use Rattle.pcm_library.proofs.session.Session.settle_at.Goals as goal
 
 pub serve_settle-requires : goal.serve_settle-requires
@@ -24,6 +25,8 @@ invariant_of-self g c =
     rw c.and.ensures.newest (record {
       layout = c.self.invariant.layout;
       going = c.serve_settle.ensures.going ∙ sym off;
+      stands = refl;
+      room = c.serve_settle.ensures.room ∙ c.self.invariant.room ∙ ap (λ (s : RawShape). most_open s + 1) (sym c.serve_settle.ensures.shape);
       serving = λ on. own-serving inside.module.shape inside.module.seed (Settle c.args.tick ∷ asked) c.serve_settle.new.pcm array out.rows out.told out.prints out.snapshots serves.0;
       ended = λ is. absurd (false≢true (sym off ∙ is));
     })

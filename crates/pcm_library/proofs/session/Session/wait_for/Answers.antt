@@ -1,7 +1,8 @@
-use Rattle.std.proofs.Common.{◌≡◌, ℕ, ◌∷◌, ap, sym, ◌∙◌, arith}
+use Rattle.std.proofs.Common.{refl, ◌≡◌, ℕ, ◌∷◌, ap, sym, ◌∙◌, arith, ◌+◌}
 use Rattle.std.proofs.lemmas.Bool.{false≢true}
 use Rattle.trace_stream.specs.{declared.asked.Asked.Asked, declared.asked.Asked.TheVariants.Until}
-use Rattle.pcm_library.{specs.Items.newest, proofs.Beginning.own-serving}
+use Rattle.module_shape.specs.declared.raw.RawShape.{RawShape}
+use Rattle.pcm_library.{specs.Items.newest, specs.Serving.most_open, proofs.Beginning.own-serving}
 use Rattle.pcm_library.proofs.session.Session.wait_for.Goals as goal
 
 pub serve_until-requires : goal.serve_until-requires
@@ -27,6 +28,8 @@ invariant_of-self g c =
     rw is (record {
       layout = c.self.invariant.layout;
       going = c.serve_until.ensures.going ∙ sym off;
+      stands = refl;
+      room = c.serve_until.ensures.room ∙ c.self.invariant.room ∙ ap (λ (s : RawShape). most_open s + 1) (sym c.serve_until.ensures.shape);
       serving = λ on. own-serving inside.module.shape inside.module.seed (At c.serve_until.new.pcm.tick ∷ asked) c.serve_until.new.pcm array out.rows out.told out.prints out.snapshots serves.0;
       ended = λ is. absurd (false≢true (sym off ∙ is));
     })
