@@ -1,7 +1,8 @@
 """The crates of crates.txt: the layer of each, what it stands on, and what its first lines say of it.
 
-A layer begins with a comment '# NUMBER. NAME'; behind it each line names a crate and the libraries that it stands on, its own
-repository's and the kit's. Called by itself it prints of each crate its layer, its name, and the first sentence of its root file."""
+A layer begins with a comment '# NUMBER. NAME'; behind it each line names a crate, with the word `staticlib` where it is one for C, and the
+libraries that it stands on, its own repository's and the kit's. Called by itself it prints of each crate its layer, its name, and the first
+sentence of its root file."""
 import functools
 import itertools
 import pathlib
@@ -20,6 +21,8 @@ class Crate(typing.NamedTuple):
     name: str
     layer: str
     libraries: tuple[str, ...]
+    # Whether it is a static library, for programs in C.
+    is_static: bool = False
 
     @property
     def folder(self):
@@ -42,6 +45,11 @@ class Crate(typing.NamedTuple):
         return re.split(r"(?<=\.)\s+(?=[A-Z`])", words)[0].removesuffix(".")
 
 
+def head_of(line):
+    """The words of a line before its libraries: the crate's name, and what kind it is of; none of a comment."""
+    return line.partition("#")[0].partition(":")[0].split()
+
+
 @functools.cache
 def listed():
     """All crates by their names, in the order of crates.txt."""
@@ -49,9 +57,9 @@ def listed():
     for line in (TOP / "crates.txt").read_text(encoding="utf-8").splitlines():
         if heading := re.match(r"# (\d+\. .*)", line):
             layer = heading[1]
-        name, colon, libraries = line.partition("#")[0].partition(":")
-        if colon:
-            crates[name.strip()] = Crate(name.strip(), layer, tuple(libraries.split()))
+        if head_of(line):
+            name, *kind = head_of(line)
+            crates[name] = Crate(name, layer, tuple(line.partition("#")[0].partition(":")[2].split()), kind == ["staticlib"])
     return crates
 
 

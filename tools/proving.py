@@ -83,6 +83,7 @@ def command(verb, crate, *more):
     words = [kit / "bin" / "rattle", verb, "--crate-name", crate, crates.named(crate).root, "--links", f"{crate}=", "--jobs", 1]
     words += [word for it in (*kits, *own) for word in ("--extern", it)]
     words += [word for it in folders for word in ("-L", f"dependency={it}")]
+    words += ["--crate-type", "staticlib"] * crates.named(crate).is_static
     words += ["--antt-project", kit / "rattle" / "logic" / "antt-project.json", "--logic-built", kit / "logic_built"]
     return list(map(str, (*words, *more)))
 
@@ -155,7 +156,7 @@ class Proofs:
         # (it is the top of a repository)
         (self.room / ".git").mkdir(parents=True)
         lines = (TOP / "crates.txt").read_text(encoding="utf-8").splitlines()
-        own = [it for it in lines if not it.startswith("#") and it.partition(":")[0].strip() in self.needed]
+        own = [it for it in lines if {*crates.head_of(it)} & {*self.needed}]
         (self.room / "crates.txt").write_text("".join(f"{it}\n" for it in own), encoding="utf-8")
         if (TOP / "HANDLES").is_file():
             shutil.copy(TOP / "HANDLES", self.room)
@@ -165,8 +166,10 @@ class Proofs:
         stop_on_change(self.needed)
 
     def made(self, crate):
-        """What was made of a crate: a program's file, or a library's folder."""
+        """What was made of a crate: a program's file, a static library's, or a library's folder."""
         out = self.room / "crates" / crate / "out"
+        if crates.named(crate).is_static:
+            return out / f"lib{crate}.a"
         return out / crate if crates.named(crate).root == "src/main.rt" else out / "rlib" / f"{crate}.rlib"
 
     def prove(self):
@@ -182,6 +185,17 @@ class Proofs:
         if self.process.wait() != 0:
             sys.exit(f"pcm: the kit refuses {' '.join(self.names)}; {self.log.relative_to(TOP)} says why")
         stop_on_change(self.needed)
+
+    def archive(self, crate):
+        """Compiles a static library that was proved, over the libraries below it as they are kept: the gate compiles none."""
+        to = self.made(crate)
+        to.parent.mkdir(parents=True, exist_ok=True)
+        words = command("build", crate, "--toolchain", kit_folder() / "toolchain", "--backend", "llvm", "-o", to)
+        with open(self.log, "a", encoding="utf-8") as log:
+            how = {"cwd": self.room / "crates" / crate, "stdin": subprocess.DEVNULL, "stdout": log, "stderr": subprocess.STDOUT}
+            self.process = subprocess.Popen(words, **how, preexec_fn=os.setpgrp)
+            if self.process.wait() != 0:
+                sys.exit(f"pcm: the kit doesn't compile {crate}; {self.log.relative_to(TOP)} says why")
 
     def tell(self, crate, what):
         if what in ("kept", "proved"):

@@ -8,6 +8,7 @@
     share/bash-completion/completions/pcm, share/zsh/site-functions/_pcm
     include/                    pcm_stream.h, pcm_disk.h and their like, for drivers in C and C++, and for SystemC
     bin/cut-firmware            with lib/pcm/pcm_copy.so and cut-firmware.1, where they could be built
+    lib/                        libpcm.a, libpcm.so and pkgconfig/pcm.pc, by which programs in C link the module, where they could be built
     share/pcm/sv/               for SystemVerilog"""
 import os
 import pathlib
@@ -21,6 +22,9 @@ import pages
 
 TOP = crates.TOP
 FIRMWARE = TOP / "examples" / "firmware"
+LIBRARY = TOP / "crates" / "pcm_c" / "out"
+# What the loader looks for, by the name in the shared object.
+LOADED = "libpcm.so.1"
 PROGRAMS = ("pcm_cli", *(f"pcm_{it}" for it in pages.table().ALONE))
 
 
@@ -66,6 +70,33 @@ def firmware():
             yield f"share/man/man1/{name}", made().encode(), False
 
 
+def build_library(*how):
+    """Builds the module as a library for C, where a compiler is here; else it says that it isn't there. Its status where the build fails."""
+    if "pcm_c" not in crates.listed():
+        return 0
+    if shutil.which("cc") and shutil.which("ar"):
+        return subprocess.run([TOP / "tools" / "build", *how, "library"]).returncode
+    print("libpcm is left out: it wants cc and ar (Debian: gcc binutils)", file=sys.stderr)
+    for name in ("libpcm.a", LOADED):
+        (LIBRARY / name).unlink(missing_ok=True)
+    return 0
+
+
+def found_by():
+    """What pkg-config reads of the library; it goes by where it stands itself."""
+    version = (TOP / "VERSION").read_text(encoding="utf-8").strip()
+    lines = ("prefix=${pcfiledir}/../..", "", "Name: pcm", "Description: A proved phase-change memory module", f"Version: {version}")
+    return "".join(f"{it}\n" for it in (*lines, "Libs: -L${prefix}/lib -lpcm", "Cflags: -I${prefix}/include")).encode()
+
+
+def library():
+    """The library for C, where it is built, as `files` has it."""
+    if (LIBRARY / LOADED).is_file():
+        yield "lib/libpcm.a", LIBRARY / "libpcm.a", False
+        yield f"lib/{LOADED}", LIBRARY / LOADED, False
+        yield "lib/pkgconfig/pcm.pc", found_by(), False
+
+
 def files():
     """Each file by its path in the tree: its bytes or the file that it is copied from, and whether it is run."""
     yield "bin/pcm", TOP / "pcm", True
@@ -83,12 +114,16 @@ def files():
     for it in sorted((TOP / "c").glob("*.h")):
         yield f"include/{it.name}", it, False
     yield from firmware()
+    yield from library()
     for it in sorted((TOP / "sv").glob("pcm_*")):
         yield f"share/pcm/sv/{it.name}", it, False
 
 
-# The package looks for the wrapper where a checkout has it.
-LINK = ("share/pcm/pcm", "../../bin/pcm")
+def links():
+    """Each link by its path in the tree, and what it leads to: the package looks for the wrapper where a checkout has it."""
+    yield "share/pcm/pcm", "../../bin/pcm"
+    if (LIBRARY / LOADED).is_file():
+        yield "lib/libpcm.so", LOADED
 
 
 def place(source, target, runs):
@@ -112,6 +147,8 @@ def make_folder(folder):
 
 
 def link(root):
-    at = pathlib.Path(root) / LINK[0]
-    at.unlink(missing_ok=True)
-    at.symlink_to(LINK[1])
+    """Makes the links of a tree; answers their paths."""
+    for path, target in links():
+        (pathlib.Path(root) / path).unlink(missing_ok=True)
+        (pathlib.Path(root) / path).symlink_to(target)
+    return [path for path, _ in links()]

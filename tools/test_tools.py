@@ -23,12 +23,18 @@ import pages
 import refusing
 import staging
 
-# A check that refuses the word 'wrong'.
+# A check that refuses the word 'wrong', and a compiler that makes a static library of the kit's own text for one.
 RATTLE = """#!/bin/sh
+verb=$1 kit=$(dirname "$0")/..
 while [ $# -gt 0 ]; do
     if [ "$1" = --crate-name ]; then name=$2 root=$3; fi
+    if [ "$1" = -o ]; then to=$2; fi
     shift
 done
+if [ "$verb" = build ]; then
+    cc -c -fPIC -o "$to.o" "$kit/static.c" && ar rcs "$to" "$to.o"
+    exit
+fi
 if grep -q wrong "$root"; then
     echo "$root:1:1: error: no proof"
     echo "logic=not-proved functions=1"
@@ -47,7 +53,7 @@ if sys.argv[1:] != ["ci"]:
 store, sums = kit.parent / "rattle-kept", {{}}
 store.mkdir(exist_ok=True)
 (noted / "jobs").write_text(os.environ["RT_JOBS"])
-for name, _, below in (line.partition(":") for line in pathlib.Path("crates.txt").read_text().splitlines()):
+for name, _, below in (line.replace(" staticlib", "").partition(":") for line in pathlib.Path("crates.txt").read_text().splitlines()):
     folder = pathlib.Path("crates", name)
     is_program = (folder / "src" / "main.rt").exists()
     texts = [it.read_text() for part in ("src", "specs", "proofs") for it in sorted((folder / part).rglob("*")) if it.is_file()]
@@ -101,7 +107,11 @@ class Crate:
     def stamp(self): return f"stamp-of-{self.name}"
 def crates_below(top): return [Crate(it) for it in os.listdir(f"{top}/crates")]
 """
+# The code of a static library, and what it asks of the kit's own archive.
+STATIC = "void *rattle_alloc(unsigned long);\nint pcm_module_rows(void *it) { return it ? 7 : rattle_alloc(1) != 0; }\nint inside(void) { return 1; }\n"
+HEAP = "#include <stdlib.h>\nvoid *rattle_alloc(unsigned long size) { return malloc(size); }\n"
 CRATES = "# 1. PARTS\nfirst:\nsecond: first\n# 2. PROGRAMS\npcm_cli: second\npcm_stream: first\npcm_explain: second\npcm_view: second\n"
+HAS_COMPILER = bool(shutil.which("cc") and shutil.which("ar"))
 PROGRAMS = ("pcm_cli", "pcm_stream", "pcm_explain", "pcm_view")
 
 
@@ -123,6 +133,7 @@ class Room:
         self.script(self.kit / "bin" / "rt", RT.format(kit=self.kit))
         (self.kit / "bin" / "rtlib.py").write_text(RTLIB)
         (self.kit / "program").write_text(PROGRAM)
+        (self.kit / "static.c").write_text(STATIC)
         self.top = self.repository("a clone")
         self.around = {**os.environ, "XDG_CACHE_HOME": str(self.cache), "PATH": f"{self.kit}/bin:{os.environ['PATH']}"}
         for name in ("PCM_EXPLAIN", "PCM_PROGRESS", "RT_JOBS"):
@@ -146,6 +157,17 @@ class Room:
                 (top / "crates" / crate / part).mkdir(parents=True)
                 (top / "crates" / crate / part / file).write_text(f"-- {crate}\n")
         return top
+
+    def add_library(self):
+        """Adds a static library, with the kit's archive that it is linked with."""
+        with open(self.top / "crates.txt", "a") as listed:
+            listed.write("pcm_c staticlib: first\n")
+        (self.top / "crates/pcm_c/src").mkdir(parents=True)
+        (self.top / "crates/pcm_c/src/lib.rt").write_text("// a library\n")
+        (self.kit / "c").mkdir()
+        (self.kit / "c" / "heap.c").write_text(HEAP)
+        subprocess.run(["cc", "-c", "-fPIC", "-o", "heap.pic.o", "heap.c"], cwd=self.kit / "c", check=True)
+        subprocess.run(["ar", "rcs", "liblibc_c.a", "heap.pic.o"], cwd=self.kit / "c", check=True)
 
     def run(self, *words, top=None, **around):
         how = {"cwd": self.folder, "env": {**self.around, **around}, "stdin": subprocess.DEVNULL, "capture_output": True, "text": True}
@@ -199,6 +221,25 @@ class Builds(unittest.TestCase):
         self.assertRegex(done.stderr, r"\Apcm: building pcm_cli pcm_stream, .*\npcm: proved 1 of 4 crates in 0 min \d s: first\n")
         self.build("pcm_cli", "pcm_stream")
         self.assertEqual(self.room.called(), [])
+
+    @unittest.skipUnless(HAS_COMPILER, "there is no cc, or no ar")
+    def test_a_static_library_is_proved_compiled_and_made_into_two_files(self):
+        self.room.add_library()
+        self.build("library")
+        self.assertEqual(self.room.called(), ["first", "pcm_c"])
+        out = self.room.top / "crates/pcm_c/out"
+        self.assertEqual(sorted(it.name for it in out.iterdir()), ["libpcm.a", "libpcm.so.1"])
+        names = subprocess.run(["nm", "-D", "--defined-only", out / "libpcm.so.1"], capture_output=True, text=True, check=True).stdout
+        self.assertEqual([line.split()[-1] for line in names.splitlines()], ["pcm_module_rows"])
+        self.build("pcm_c")
+        self.assertEqual(self.room.called(), [])
+        self.edit("crates/pcm_c/src/lib.rt", "// wrong\n")
+        done = self.room.run("tools/build", "library")
+        self.assertEqual((done.returncode, done.stderr.splitlines()[-1]), (1, "pcm: the proof of pcm_c failed; crates/pcm_c/build.log says why"))
+        (self.room.kit / "static.c").write_text("no C\n")
+        self.edit("crates/pcm_c/src/lib.rt", "// another\n")
+        done = self.room.run("tools/build", "library")
+        self.assertEqual((done.returncode, done.stderr.splitlines()[-1]), (1, "pcm: the kit doesn't compile pcm_c; crates/pcm_c/build.log says why"))
 
     def test_the_gate_of_the_kit_finds_what_a_build_proved(self):
         self.build("pcm_cli")
@@ -569,6 +610,8 @@ class Installed(unittest.TestCase):
         cls.room = Room()
         for folder in ("c", "sv"):
             shutil.copytree(TOP / folder, cls.room.top / folder)
+        if HAS_COMPILER:
+            cls.room.add_library()
         cls.prefix = cls.room.folder / "not there" / "a prefix"
         cls.said = [cls.room.run("tools/install", "--prefix", str(cls.prefix)), cls.room.run("tools/dist", str(cls.room.folder))]
         shutil.move(cls.room.top, cls.room.folder / "gone")
@@ -616,6 +659,22 @@ class Installed(unittest.TestCase):
         there = {str(it.relative_to(self.prefix)) for folder in ("include", "share/pcm/sv") for it in (self.prefix / folder).iterdir()}
         self.assertEqual(there, {f"include/{it.name}" for it in (TOP / "c").glob("*.h")} | {f"share/pcm/sv/pcm_{it}" for it in ("dpi.sv", "dpi.c", "mem.sv")})
         self.assertLessEqual({"include/pcm_stream.h", "include/pcm_disk.h", "include/pcm_tlm.h", "include/pcm_tlm_at.h"}, there)
+
+    @unittest.skipUnless(HAS_COMPILER, "there is no cc, or no ar")
+    def test_programs_in_c_link_the_library_both_ways(self):
+        library = self.prefix / "lib"
+        self.assertEqual(sorted(it.name for it in library.glob("libpcm*")), ["libpcm.a", "libpcm.so", "libpcm.so.1"])
+        with tempfile.TemporaryDirectory() as room:
+            (pathlib.Path(room) / "it.c").write_text('#include <pcm.h>\nint main(void) { struct pcm_module it = {0}; return (int)pcm_module_rows(&it); }\n')
+            flags = [f"-I{self.prefix}/include", f"-L{library}"]
+            subprocess.run(["cc", "it.c", *flags, "-lpcm", f"-Wl,-rpath,{library}", "-o", "shared"], cwd=room, check=True)
+            subprocess.run(["cc", "it.c", *flags, "-l:libpcm.a", "-o", "static"], cwd=room, check=True)
+            self.assertEqual([subprocess.run([f"{room}/{it}"]).returncode for it in ("shared", "static")], [7, 7])
+            if shutil.which("pkg-config"):
+                words = ["pkg-config", "--cflags", "--libs", "pcm"]
+                around = {"PATH": os.environ["PATH"], "PKG_CONFIG_PATH": str(library / "pkgconfig")}
+                told = subprocess.run(words, env=around, capture_output=True, text=True, check=True).stdout
+                self.assertIn(" -lpcm", told)
 
     def test_the_package_finds_the_program_beside_it(self):
         words = "import pcm; print(pcm.program())"

@@ -1,0 +1,4 @@
+mod Handles
+mod Opening
+mod Steps
+mod Values

@@ -1,0 +1,24 @@
+-- From options to a module that begins.
+use Rattle.std.proofs.Common.{◌≡◌, Bool, ap, subst}
+use Rattle.std.specs.Prelude.{Option, Some, None, Result, Ok, Err}
+use Rattle.cell_rows.specs.declared.array.Wear.{Wear}
+use Rattle.module_shape.specs.{Limits.accepted_by, declared.raw.BadShape.BadShape, declared.raw.Field.Field, declared.raw.RawShape.RawShape}
+use Rattle.pcm_c.specs.{Opening.{BeginsWith, IsChosen, OpensAt, raw_of}, declared.held.Held.Held, declared.options.Chosen.Chosen, declared.options.ModuleOptions.ModuleOptions}
+
+-- the sizes in a result, or these
+abbrev shape-in : RawShape → Result RawShape BadShape → RawShape
+shape-in raw (Ok shape) = shape
+shape-in raw (Err bad) = raw
+
+-- sizes that were accepted are those that were asked for
+pub shape-asked : (shape raw : RawShape) (fault : Option Field) → Ok shape ≡ accepted_by raw fault → shape ≡ raw
+shape-asked shape raw None is = ap (shape-in raw) is
+shape-asked shape raw (Some field) is = ap (shape-in raw) is
+
+-- what begins as it was chosen by options was opened by them
+pub opens : (o : ModuleOptions) (chosen : Chosen) (held : Held) → IsChosen o chosen → BeginsWith chosen.is_wide chosen.shape chosen.wear.seed held → OpensAt o (Some held)
+opens o chosen held is begins =
+    let right = is.right in
+    let sized = subst (λ (is_wide : Bool). BeginsWith is_wide chosen.shape chosen.wear.seed held) is.wide begins in
+    let shaped = subst (λ (raw : RawShape). BeginsWith right.is_wide raw chosen.wear.seed held) is.shape sized in
+    (right, subst (λ (wear : Wear). BeginsWith right.is_wide (raw_of o right.policy right.home) wear.seed held) is.wear shaped)

@@ -1,0 +1,5 @@
+pub mod Calls
+pub mod Lending
+pub mod Opening
+pub mod Owning
+pub mod Telling

@@ -1,0 +1,69 @@
+// Calls of a module with lines of any size.
+ghost use Rattle.std.specs.Prelude.{◌≡◌, ◌≢◌, ◌≤◌, None, Some};
+ghost use Rattle.trace_stream.specs.declared.asked.Asked.TheVariants.{Settle, Until as Waits};
+ghost use Rattle.pcm_library.specs.declared.keeper.Kept.{Kept};
+ghost use Rattle.pcm_c.specs.Calls.{Finishes, Hands, Takes};
+ghost use Rattle.pcm_c.specs.Telling.{IsTold};
+
+use crate::outcome::{ModuleOutcome, tell};
+use crate::status::{Status, told};
+use cell_rows::CellArray;
+use pcm_library::Session;
+
+/// The first outcome that waits is told to C.
+pub(crate) fn next<const B: usize, const M: usize, const E: usize, A: CellArray<B, M> + Drop>(
+    session: &mut Session<B, M, E, A>,
+    out: &mut ModuleOutcome,
+) -> Status
+    requires few { B ≤ 128 }
+    ensures done { result ≡ Status.Done
+        → (kept : Kept B) × Hands (Some kept) session.old session.new × IsTold kept out.new }
+    ensures none { result ≢ Status.Done → Hands None session.old session.new }
+    ensures out { result ≢ Status.Done → out.new ≡ out.old }
+{
+    match session.next() {
+        Some(kept) => {
+            tell(&kept, out);
+            Status::Done
+        }
+        None => Status::Empty,
+    }
+}
+
+/// Every bank comes to a tick.
+pub(crate) fn settle<const B: usize, const M: usize, const E: usize, A: CellArray<B, M> + Drop>(
+    session: &mut Session<B, M, E, A>,
+    tick: u64,
+) -> Status
+    ensures done { result ≡ Status.Done → Takes A.state (Settle tick) session.old session.new }
+    ensures rest { result ≢ Status.Done → session.new ≡ session.old }
+{
+    told(session.settle(tick))
+}
+
+/// Every bank goes on until a row has its outcome, at most to a tick.
+pub(crate) fn settle_until<
+    const B: usize,
+    const M: usize,
+    const E: usize,
+    A: CellArray<B, M> + Drop,
+>(session: &mut Session<B, M, E, A>, row: u32, limit: u64) -> Status
+    ensures done { result ≡ Status.Done → Takes A.state (Waits (record {
+      row = row;
+      limit = limit;
+      reached = session.new.module_.tick;
+    })) session.old session.new }
+    ensures rest { result ≢ Status.Done → session.new ≡ session.old }
+{
+    told(session.settle_until(row, limit))
+}
+
+/// No more rows come: the banks drain.
+pub(crate) fn finish<const B: usize, const M: usize, const E: usize, A: CellArray<B, M> + Drop>(
+    session: &mut Session<B, M, E, A>,
+) -> Status
+    ensures done { result ≡ Status.Done → Finishes A.state session.old session.new }
+    ensures rest { result ≢ Status.Done → session.new ≡ session.old }
+{
+    told(session.finish())
+}

@@ -1,0 +1,301 @@
+// A module over the array whose cells wear out as a seed says, with lines of one of the two sizes.
+ghost use Rattle.std.specs.Prelude.{◌≡◌, ◌≢◌, ◌<◌, IfOk, false, true};
+ghost use Rattle.module_shape.specs.Limits.{total_of};
+ghost use Rattle.cell_rows.specs.Device.{IsWear};
+ghost use Rattle.pcm_cells.specs.Seeded.{seeded_state};
+ghost use Rattle.trace_reader.specs.declared.event.EventOp.TheVariants.{Read, Write, Cut};
+ghost use Rattle.trace_stream.specs.declared.asked.Asked.TheVariants.{Happens, Settle, Until as Waits};
+ghost use Rattle.pcm_c.specs.Calls.{Begins, FinishesRows, Takes, TakesRow, lines_at, rows_at, tick_at, waiting_at};
+ghost use Rattle.pcm_c.specs.Opening.{BeginsWith};
+ghost use Rattle.pcm_c.specs.Telling.{HandsNothing, HandsTold, LacksBank, TellsBank};
+
+use crate::backlog::{ModuleBacklog, tell};
+use crate::calls::{finish, next, settle, settle_until};
+use crate::options::Chosen;
+use crate::outcome::ModuleOutcome;
+use crate::status::{Status, told};
+use pcm_cells::MemArray;
+use pcm_library::{Answer, Session};
+use std::alloc::{AllocError, Global};
+use trace_reader::{Event, EventOp};
+
+/// A module whose lines have 64 bytes.
+pub type NarrowSession = Session<64, 8, 6, MemArray<64, 8>>;
+
+/// A module whose lines have 128 bytes.
+pub type WideSession = Session<128, 16, 8, MemArray<128, 16>>;
+
+/// A module with lines of one of the two sizes.
+#[derive(Drop)]
+pub enum Held {
+    Narrow(NarrowSession),
+    Wide(WideSession),
+}
+
+fn narrow(alloc: Global, chosen: &Chosen) -> Result<NarrowSession, AllocError>
+    requires { IsWear chosen.now.wear }
+    ensures { IfOk result (λ session.
+        Begins seeded_state chosen.now.shape chosen.now.wear.seed session) }
+{
+    let array = MemArray::without_energy();
+    Session::new(alloc, chosen.shape, chosen.wear.seed, chosen.wear, array)
+}
+
+fn wide(alloc: Global, chosen: &Chosen) -> Result<WideSession, AllocError>
+    requires { IsWear chosen.now.wear }
+    ensures { IfOk result (λ session.
+        Begins seeded_state chosen.now.shape chosen.now.wear.seed session) }
+{
+    let array = MemArray::without_energy();
+    Session::new(alloc, chosen.shape, chosen.wear.seed, chosen.wear, array)
+}
+
+fn write_narrow(session: &mut NarrowSession, tick: u64, line: u32, bytes: &[u8]) -> Status
+    requires exists { line < total_of session.old.module_.shape }
+    ensures done { result ≡ Status.Done → Takes seeded_state (Happens (record {
+      tick = tick;
+      op = Write line bytes.now;
+    })) session.old session.new }
+    ensures rest { result ≢ Status.Done → session.new ≡ session.old }
+{
+    let Some(bytes) = bytes.as_array() else {
+        return Status::Size;
+    };
+    told(session.event(&Event {
+        tick,
+        op: EventOp::Write(line, *bytes),
+    }))
+}
+
+fn write_wide(session: &mut WideSession, tick: u64, line: u32, bytes: &[u8]) -> Status
+    requires exists { line < total_of session.old.module_.shape }
+    ensures done { result ≡ Status.Done → Takes seeded_state (Happens (record {
+      tick = tick;
+      op = Write line bytes.now;
+    })) session.old session.new }
+    ensures rest { result ≢ Status.Done → session.new ≡ session.old }
+{
+    let Some(bytes) = bytes.as_array() else {
+        return Status::Size;
+    };
+    told(session.event(&Event {
+        tick,
+        op: EventOp::Write(line, *bytes),
+    }))
+}
+
+impl Held {
+    /// A module as it was chosen.
+    pub(crate) fn new(alloc: Global, chosen: &Chosen) -> Result<Held, AllocError>
+        requires { IsWear chosen.now.wear }
+        ensures { IfOk result (λ held.
+            BeginsWith chosen.now.is_wide chosen.now.shape chosen.now.wear.seed held) }
+    {
+        if chosen.is_wide {
+            return Ok(Held::Wide(wide(alloc, chosen)?));
+        }
+        Ok(Held::Narrow(narrow(alloc, chosen)?))
+    }
+
+    // A read comes, whose line is one of the module's.
+    fn take_read(&mut self, tick: u64, line: u32) -> Answer
+        requires exists { line < lines_at self.old }
+        ensures done { result ≡ Answer.Done → TakesRow (λ n. Happens (record {
+          tick = tick;
+          op = Read line;
+        })) self.old self.new }
+        ensures rest { result ≢ Answer.Done → self.new ≡ self.old }
+    {
+        match self {
+            Held::Narrow(session) => session.event(&Event {
+                tick,
+                op: EventOp::Read(line),
+            }),
+            Held::Wide(session) => session.event(&Event {
+                tick,
+                op: EventOp::Read(line),
+            }),
+        }
+    }
+
+    /// A read of a line comes.
+    pub(crate) fn read(&mut self, tick: u64, line: u32) -> Status
+        ensures done { result ≡ Status.Done → TakesRow (λ n. Happens (record {
+          tick = tick;
+          op = Read line;
+        })) self.old self.new }
+        ensures rest { result ≢ Status.Done → self.new ≡ self.old }
+    {
+        if line >= self.lines() {
+            return Status::NoLine;
+        }
+        told(self.take_read(tick, line))
+    }
+
+    // A write comes, whose line is one of the module's.
+    fn take_write(&mut self, tick: u64, line: u32, bytes: &[u8]) -> Status
+        requires exists { line < lines_at self.old }
+        ensures done { result ≡ Status.Done → TakesRow (λ n. Happens (record {
+          tick = tick;
+          op = Write line bytes.now;
+        })) self.old self.new }
+        ensures rest { result ≢ Status.Done → self.new ≡ self.old }
+    {
+        match self {
+            Held::Narrow(session) => write_narrow(session, tick, line, bytes),
+            Held::Wide(session) => write_wide(session, tick, line, bytes),
+        }
+    }
+
+    /// A write of a whole line comes.
+    pub(crate) fn write(&mut self, tick: u64, line: u32, bytes: &[u8]) -> Status
+        ensures done { result ≡ Status.Done → TakesRow (λ n. Happens (record {
+          tick = tick;
+          op = Write line bytes.now;
+        })) self.old self.new }
+        ensures rest { result ≢ Status.Done → self.new ≡ self.old }
+    {
+        if line >= self.lines() {
+            return Status::NoLine;
+        }
+        self.take_write(tick, line, bytes)
+    }
+
+    // The power is cut, where it may be.
+    fn take_cut(&mut self, tick: u64) -> Answer
+        ensures done { result ≡ Answer.Done → TakesRow (λ n. Happens (record {
+          tick = tick;
+          op = Cut;
+        })) self.old self.new }
+        ensures rest { result ≢ Answer.Done → self.new ≡ self.old }
+    {
+        match self {
+            Held::Narrow(session) => session.event(&Event {
+                tick,
+                op: EventOp::Cut,
+            }),
+            Held::Wide(session) => session.event(&Event {
+                tick,
+                op: EventOp::Cut,
+            }),
+        }
+    }
+
+    /// The power is cut.
+    pub(crate) fn cut(&mut self, tick: u64) -> Status
+        ensures done { result ≡ Status.Done → TakesRow (λ n. Happens (record {
+          tick = tick;
+          op = Cut;
+        })) self.old self.new }
+        ensures rest { result ≢ Status.Done → self.new ≡ self.old }
+    {
+        told(self.take_cut(tick))
+    }
+
+    /// Every bank comes to a tick.
+    pub(crate) fn settle(&mut self, tick: u64) -> Status
+        ensures done { result ≡ Status.Done → TakesRow (λ n. Settle tick) self.old self.new }
+        ensures rest { result ≢ Status.Done → self.new ≡ self.old }
+    {
+        match self {
+            Held::Narrow(session) => settle(session, tick),
+            Held::Wide(session) => settle(session, tick),
+        }
+    }
+
+    /// Every bank goes on until a row has its outcome, at most to a tick.
+    pub(crate) fn settle_until(&mut self, row: u32, limit: u64) -> Status
+        ensures done { result ≡ Status.Done → TakesRow (λ n. Waits (record {
+          row = row;
+          limit = limit;
+          reached = tick_at self.new;
+        })) self.old self.new }
+        ensures rest { result ≢ Status.Done → self.new ≡ self.old }
+    {
+        match self {
+            Held::Narrow(session) => settle_until(session, row, limit),
+            Held::Wide(session) => settle_until(session, row, limit),
+        }
+    }
+
+    /// No more rows come: the banks drain.
+    pub(crate) fn finish(&mut self) -> Status
+        ensures done { result ≡ Status.Done → FinishesRows self.old self.new }
+        ensures rest { result ≢ Status.Done → self.new ≡ self.old }
+    {
+        match self {
+            Held::Narrow(session) => finish(session),
+            Held::Wide(session) => finish(session),
+        }
+    }
+
+    /// The first outcome that waits is told to C.
+    pub(crate) fn next(&mut self, out: &mut ModuleOutcome) -> Status
+        ensures done { result ≡ Status.Done → HandsTold self.old self.new out.new }
+        ensures none { result ≢ Status.Done → HandsNothing self.old self.new }
+        ensures out { result ≢ Status.Done → out.new ≡ out.old }
+    {
+        match self {
+            Held::Narrow(session) => next(session, out),
+            Held::Wide(session) => next(session, out),
+        }
+    }
+
+    /// What waits in a bank is told to C.
+    pub(crate) fn bank(&self, bank: u32, out: &mut ModuleBacklog) -> Status
+        ensures done { result ≡ Status.Done → TellsBank bank self.now out.new }
+        ensures none { result ≢ Status.Done → LacksBank bank self.now }
+    {
+        let backlog = match self {
+            Held::Narrow(session) => session.waits(bank),
+            Held::Wide(session) => session.waits(bank),
+        };
+        match backlog {
+            Some(backlog) => {
+                tell(&backlog, out);
+                Status::Done
+            }
+            None => Status::NoBank,
+        }
+    }
+
+    /// The tick that was reached.
+    pub(crate) fn tick(&self) -> u64
+        ensures { result ≡ tick_at self.now }
+    {
+        match self {
+            Held::Narrow(session) => session.tick(),
+            Held::Wide(session) => session.tick(),
+        }
+    }
+
+    /// How many rows came.
+    pub(crate) fn rows(&self) -> u32
+        ensures { result ≡ rows_at self.now }
+    {
+        match self {
+            Held::Narrow(session) => session.rows(),
+            Held::Wide(session) => session.rows(),
+        }
+    }
+
+    /// How many lines there are.
+    pub(crate) fn lines(&self) -> u32
+        ensures { result ≡ lines_at self.now }
+    {
+        match self {
+            Held::Narrow(session) => session.lines(),
+            Held::Wide(session) => session.lines(),
+        }
+    }
+
+    /// How many outcomes wait.
+    pub(crate) fn waiting(&self) -> usize
+        ensures { result ≡ waiting_at self.now }
+    {
+        match self {
+            Held::Narrow(session) => session.waiting(),
+            Held::Wide(session) => session.waiting(),
+        }
+    }
+}

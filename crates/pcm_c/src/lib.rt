@@ -1,0 +1,263 @@
+//! A module in the process of a C program: the functions of c/pcm.h. None requires more than valid pointers; what C can break says that header.
+#![tactic(auto)]
+
+ghost use Rattle.std.specs.Prelude.{◌≡◌, ◌≢◌, IfErr, IfOk, None, Some};
+ghost use Rattle.cell_rows.specs.Device.{IsWear};
+ghost use Rattle.trace_reader.specs.declared.event.EventOp.TheVariants.{Cut, Read, Write};
+ghost use Rattle.trace_stream.specs.declared.asked.Asked.TheVariants.{Happens, Settle, Until as Waits};
+ghost use Rattle.pcm_c.specs.Calls.{FinishesAt, TakesRowAt, lines_at, number_of, rows_at, tick_at, waiting_at};
+ghost use Rattle.pcm_c.specs.Opening.{AreRight, BeginsWith, OpensAt};
+ghost use Rattle.pcm_c.specs.Telling.{HandsAt, HandsNothingAt, TellsBankAt};
+
+mod backlog;
+mod calls;
+mod handle;
+mod held;
+mod lend;
+mod loose;
+mod options;
+mod outcome;
+mod pcm;
+mod status;
+
+use crate::options::{Chosen, choose};
+use crate::status::Status;
+pub use backlog::ModuleBacklog;
+pub use handle::Handle;
+pub use held::{Held, NarrowSession, WideSession};
+pub use options::ModuleOptions;
+pub use outcome::ModuleOutcome;
+pub use pcm::PcmModule;
+use std::alloc::Global;
+
+/// The number of an option that is out of range, or 0 where none is.
+#[unsafe(no_mangle)]
+pub extern "C" fn pcm_module_bad_option(options: &ModuleOptions) -> u32
+    ensures { result ≡ 0 → AreRight options.now }
+{
+    match choose(options) {
+        Ok(_) => 0,
+        Err(bad) => bad.number(),
+    }
+}
+
+// The module that these options ask for.
+fn opened(alloc: Global, options: &ModuleOptions) -> Result<Box<Held>, Status>
+    ensures held { IfOk result (λ held. OpensAt options.now (Some held.value)) }
+    ensures refused { IfErr result (λ status. status ≢ Status.Done) }
+{
+    match choose(options) {
+        Ok(chosen) => boxed(alloc, &chosen),
+        Err(_) => Err(Status::Options),
+    }
+}
+
+// The same, in a box.
+fn boxed(alloc: Global, chosen: &Chosen) -> Result<Box<Held>, Status>
+    requires { IsWear chosen.now.wear }
+    ensures held { IfOk result (λ held.
+        BeginsWith chosen.now.is_wide chosen.now.shape chosen.now.wear.seed held.value) }
+    ensures refused { IfErr result (λ status. status ≢ Status.Done) }
+{
+    match Held::new(alloc, chosen) {
+        Ok(held) => match Box::new(alloc, held) {
+            Ok(held) => Ok(held),
+            Err(_) => Err(Status::NoMemory),
+        },
+        Err(_) => Err(Status::NoMemory),
+    }
+}
+
+/// Opens a module.
+#[unsafe(no_mangle)]
+pub extern "C" fn pcm_module_open(
+    alloc: Global,
+    pcm: &mut PcmModule,
+    options: &ModuleOptions,
+) -> u32
+    ensures done { result ≡ 0 → OpensAt options.now pcm.new.value }
+    ensures rest { result ≢ 0 → pcm.new ≡ pcm.old }
+{
+    if pcm.is_open {
+        return Status::Open.number();
+    }
+    match opened(alloc, options) {
+        Ok(held) => {
+            pcm.handle = Handle::of(held);
+            pcm.is_open = true;
+            Status::Done.number()
+        }
+        Err(refused) => refused.number(),
+    }
+}
+
+/// A write of a whole line comes.
+#[unsafe(no_mangle)]
+pub extern "C" fn pcm_module_write(pcm: &mut PcmModule, tick: u64, line: u32, bytes: &[u8]) -> u32
+    ensures done { result ≡ 0 → TakesRowAt (λ n. Happens (record {
+      tick = tick;
+      op = Write line bytes.now;
+    })) pcm.old.value pcm.new.value }
+    ensures rest { result ≢ 0 → pcm.new ≡ pcm.old }
+{
+    if !pcm.is_open {
+        return Status::Closed.number();
+    }
+    pcm.handle.held().write(tick, line, bytes).number()
+}
+
+/// A read of a line comes.
+#[unsafe(no_mangle)]
+pub extern "C" fn pcm_module_read(pcm: &mut PcmModule, tick: u64, line: u32) -> u32
+    ensures done { result ≡ 0 → TakesRowAt (λ n. Happens (record {
+      tick = tick;
+      op = Read line;
+    })) pcm.old.value pcm.new.value }
+    ensures rest { result ≢ 0 → pcm.new ≡ pcm.old }
+{
+    if !pcm.is_open {
+        return Status::Closed.number();
+    }
+    pcm.handle.held().read(tick, line).number()
+}
+
+/// The power is cut.
+#[unsafe(no_mangle)]
+pub extern "C" fn pcm_module_cut(pcm: &mut PcmModule, tick: u64) -> u32
+    ensures done { result ≡ 0 → TakesRowAt (λ n. Happens (record {
+      tick = tick;
+      op = Cut;
+    })) pcm.old.value pcm.new.value }
+    ensures rest { result ≢ 0 → pcm.new ≡ pcm.old }
+{
+    if !pcm.is_open {
+        return Status::Closed.number();
+    }
+    pcm.handle.held().cut(tick).number()
+}
+
+/// Every bank comes to a tick.
+#[unsafe(no_mangle)]
+pub extern "C" fn pcm_module_settle(pcm: &mut PcmModule, tick: u64) -> u32
+    ensures done { result ≡ 0 → TakesRowAt (λ n. Settle tick) pcm.old.value
+        pcm.new.value }
+    ensures rest { result ≢ 0 → pcm.new ≡ pcm.old }
+{
+    if !pcm.is_open {
+        return Status::Closed.number();
+    }
+    pcm.handle.held().settle(tick).number()
+}
+
+/// Every bank goes on until a row has its outcome, at most to a tick.
+#[unsafe(no_mangle)]
+pub extern "C" fn pcm_module_settle_until(pcm: &mut PcmModule, row: u32, limit: u64) -> u32
+    ensures done { result ≡ 0 → TakesRowAt (λ n. Waits (record {
+      row = row;
+      limit = limit;
+      reached = number_of tick_at pcm.new.value;
+    })) pcm.old.value pcm.new.value }
+    ensures rest { result ≢ 0 → pcm.new ≡ pcm.old }
+{
+    if !pcm.is_open {
+        return Status::Closed.number();
+    }
+    pcm.handle.held().settle_until(row, limit).number()
+}
+
+/// No more rows come: the banks drain.
+#[unsafe(no_mangle)]
+pub extern "C" fn pcm_module_finish(pcm: &mut PcmModule) -> u32
+    ensures done { result ≡ 0 → FinishesAt pcm.old.value pcm.new.value }
+    ensures rest { result ≢ 0 → pcm.new ≡ pcm.old }
+{
+    if !pcm.is_open {
+        return Status::Closed.number();
+    }
+    pcm.handle.held().finish().number()
+}
+
+/// The first outcome that waits is taken.
+#[unsafe(no_mangle)]
+pub extern "C" fn pcm_module_next(pcm: &mut PcmModule, out: &mut ModuleOutcome) -> u32
+    ensures done { result ≡ 0 → HandsAt pcm.old.value pcm.new.value out.new }
+    ensures none { result ≢ 0 → HandsNothingAt pcm.old.value pcm.new.value }
+    ensures out { result ≢ 0 → out.new ≡ out.old }
+{
+    if !pcm.is_open {
+        return Status::Closed.number();
+    }
+    pcm.handle.held().next(out).number()
+}
+
+/// What waits in a bank.
+#[unsafe(no_mangle)]
+pub extern "C" fn pcm_module_bank(pcm: &mut PcmModule, bank: u32, out: &mut ModuleBacklog) -> u32
+    ensures done { result ≡ 0 → TellsBankAt bank pcm.old.value out.new }
+    ensures rest { pcm.new ≡ pcm.old }
+{
+    if !pcm.is_open {
+        return Status::Closed.number();
+    }
+    pcm.handle.held().bank(bank, out).number()
+}
+
+/// The tick that was reached; 0 where it is closed.
+#[unsafe(no_mangle)]
+pub extern "C" fn pcm_module_tick(pcm: &mut PcmModule) -> u64
+    ensures number { result ≡ number_of tick_at pcm.old.value }
+    ensures rest { pcm.new ≡ pcm.old }
+{
+    if !pcm.is_open {
+        return 0;
+    }
+    pcm.handle.held().tick()
+}
+
+/// How many rows came; 0 where it is closed.
+#[unsafe(no_mangle)]
+pub extern "C" fn pcm_module_rows(pcm: &mut PcmModule) -> u32
+    ensures number { result ≡ number_of rows_at pcm.old.value }
+    ensures rest { pcm.new ≡ pcm.old }
+{
+    if !pcm.is_open {
+        return 0;
+    }
+    pcm.handle.held().rows()
+}
+
+/// How many lines it has; 0 where it is closed.
+#[unsafe(no_mangle)]
+pub extern "C" fn pcm_module_lines(pcm: &mut PcmModule) -> u32
+    ensures number { result ≡ number_of lines_at pcm.old.value }
+    ensures rest { pcm.new ≡ pcm.old }
+{
+    if !pcm.is_open {
+        return 0;
+    }
+    pcm.handle.held().lines()
+}
+
+/// How many outcomes wait; 0 where it is closed.
+#[unsafe(no_mangle)]
+pub extern "C" fn pcm_module_waiting(pcm: &mut PcmModule) -> usize
+    ensures number { result ≡ number_of waiting_at pcm.old.value }
+    ensures rest { pcm.new ≡ pcm.old }
+{
+    if !pcm.is_open {
+        return 0;
+    }
+    pcm.handle.held().waiting()
+}
+
+/// Closes a module. One that is closed stays so.
+#[unsafe(no_mangle)]
+pub extern "C" fn pcm_module_close(alloc: Global, pcm: &mut PcmModule)
+    ensures { pcm.new.value ≡ None }
+{
+    if pcm.is_open {
+        let handle = std::mem::replace(&mut pcm.handle, Handle::none(alloc));
+        pcm.is_open = false;
+        drop(handle.into_box(alloc));
+    }
+}
