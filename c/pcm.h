@@ -13,8 +13,8 @@
 
    It is the module of `pcm stream`, which answers the same to the same rows. What options, rows and outcomes mean USING.md and FORMATS.md of the
    repository say; ticks are the simulation's own unit of time, from 0 to 2^40, and never fall. A line is a line of the module, from 0. Outcomes
-   wait until they are taken: nothing is called back. Memory comes from malloc: as the module is opened, for all that it will ever hold but outcomes,
-   of which 64 have room from the start. Each call answers a status; but for PCM_MODULE_OK it has changed nothing.
+   wait until they are taken: nothing is called back. Memory comes from malloc: as the module is opened, for all that it will ever hold, but for
+   outcomes that wait while more rows come. Each call answers a status; but for PCM_MODULE_OK it has changed nothing.
 
    What a call does to the module is proved, for all arguments. What C can break is what C always can: a pointer that isn't valid (so NULL), or not to
    as many bytes as are said; a struct pcm_module that is neither all zero nor as the last call left it, so one that was written to, or a copy of one of
@@ -45,8 +45,7 @@ enum pcm_module_status {
     PCM_MODULE_MASK,      /* a mask gives no byte */
     PCM_MODULE_TOO_MANY,  /* 4,294,967,294 rows came */
     PCM_MODULE_OPTIONS,   /* an option is out of range: pcm_module_bad_option says which */
-    PCM_MODULE_NO_MEMORY, /* malloc gave none. pcm_module_open opened nothing; of another call it says that an outcome of a row before was lost, so that
-                             no row is taken any more (it can't be where none waits as a row is handed in, and banks hold at most 63 rows) */
+    PCM_MODULE_NO_MEMORY, /* malloc gave none, and nothing changed: of a row it comes only where outcomes wait that weren't taken */
     PCM_MODULE_CLOSED,    /* the module isn't open */
     PCM_MODULE_OPEN       /* the module is open already */
 };
@@ -130,6 +129,10 @@ uint32_t pcm_module_open(struct pcm_module *pcm, const struct pcm_module_options
    its outcome says that. PCM_MODULE_SIZE, PCM_MODULE_NO_LINE, and of every row PCM_MODULE_CLOSED, PCM_MODULE_ENDED, PCM_MODULE_LATE,
    PCM_MODULE_TOO_MANY, PCM_MODULE_NO_MEMORY. */
 uint32_t pcm_module_write(struct pcm_module *pcm, uint64_t tick, uint32_t line, const uint8_t *bytes, size_t size);
+/* A write that gives the bytes for which `given` is true arrives; both are as many as a line has, and are copied. PCM_MODULE_MASK where it gives
+   none, and as a write of a whole line. */
+uint32_t pcm_module_write_masked(struct pcm_module *pcm, uint64_t tick, uint32_t line, const uint8_t *bytes, size_t size, const bool *given,
+                                 size_t count);
 /* A read of a line arrives. PCM_MODULE_NO_LINE, and those of every row. */
 uint32_t pcm_module_read(struct pcm_module *pcm, uint64_t tick, uint32_t line);
 /* The power is cut, and is there again at once. Those of every row. */

@@ -92,6 +92,9 @@ static void what_cannot_come_is_refused_and_changes_nothing(void)
     check(pcm_module_write(&pcm, 0, 0, bytes, 63) == PCM_MODULE_SIZE && pcm_module_write(&pcm, 0, 0, bytes, 128) == PCM_MODULE_SIZE, "other sizes");
     check(pcm_module_write(&pcm, 0, 0, bytes, 0) == PCM_MODULE_SIZE, "no bytes");
     check(pcm_module_write(&pcm, 0, UINT32_MAX, bytes, 0) == PCM_MODULE_NO_LINE, "no bytes, to no line");
+    const bool none[64] = {false};
+    check(pcm_module_write_masked(&pcm, 0, 0, bytes, 64, none, 64) == PCM_MODULE_MASK, "a mask that gives nothing");
+    check(pcm_module_write_masked(&pcm, 0, 0, bytes, 64, none, 63) == PCM_MODULE_SIZE, "a mask of another size");
     check(pcm_module_settle_until(&pcm, 0, 0) == PCM_MODULE_NO_ROW && pcm_module_settle_until(&pcm, 1, 0) == PCM_MODULE_NO_ROW, "no such row");
     check(pcm_module_bank(&pcm, 4, &bank) == PCM_MODULE_NO_BANK && bank.writes == 9, "no such bank");
     check(pcm_module_read(&pcm, last + 1, 0) == PCM_MODULE_LATE && pcm_module_settle(&pcm, UINT64_MAX) == PCM_MODULE_LATE, "too late");

@@ -11,10 +11,6 @@ import random
 import subprocess
 import sys
 
-# Whether the library takes masked writes.
-MASKS = False
-
-
 def module(draw):
     """Sizes, pace and wear of a module, as words have them."""
     sizes = {"banks": (1, 2, 4, 8, 16), "regions": (1, 2, 4), "lines": (4, 8, 16, 64), "line": (64, 64, 64, 128), "spares": (0, 1, 2, 8)}
@@ -39,7 +35,7 @@ def row(draw, tick, line, size, rows):
     kind = draw.random()
     if kind < 0.45:
         return f"{tick},W,{line},{draw.randbytes(size).hex()}"
-    if kind < 0.6 and MASKS:
+    if kind < 0.6:
         return f"{tick},M,{line},{masked(draw, size)}"
     if kind < 0.9:
         return f"{tick},R,{line},"

@@ -69,7 +69,7 @@ static void tell_banks(struct pcm_module *pcm, uint64_t tick)
 static unsigned digit(char c) { return (unsigned)(c <= '9' ? c - '0' : (c | 32) - 'a' + 10); }
 
 /* The bytes that a row gives, and which they are. */
-static size_t bytes_of(const char *text, uint8_t *bytes, uint8_t *given)
+static size_t bytes_of(const char *text, uint8_t *bytes, bool *given)
 {
     size_t size = strcspn(text, "\r\n") / 2;
     for (size_t i = 0; i < size; i++) {
@@ -82,7 +82,8 @@ static size_t bytes_of(const char *text, uint8_t *bytes, uint8_t *given)
 /* What the module answers to a row; what it tells is printed. */
 static uint32_t played(struct pcm_module *pcm, const char *row)
 {
-    uint8_t bytes[256], given[256];
+    uint8_t bytes[256];
+    bool given[256];
     char *at;
     uint64_t tick = strtoull(row, &at, 10);
     char op = at[1];
@@ -90,6 +91,8 @@ static uint32_t played(struct pcm_module *pcm, const char *row)
     size_t size = bytes_of(at + 1, bytes, given);
     if (op == 'W')
         status = pcm_module_write(pcm, tick, line, bytes, size);
+    else if (op == 'M')
+        status = pcm_module_write_masked(pcm, tick, line, bytes, size, given, size);
     else if (op == 'R')
         status = pcm_module_read(pcm, tick, line);
     else if (op == 'C')

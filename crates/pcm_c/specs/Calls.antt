@@ -28,6 +28,7 @@ module _ {n m e : ℕ} {S : Type 0} (state : S → ArrayState n m) where
   pub record Finishes (old new : Serving n m e S) : Type 0 where
     pub finished : new.module_.finished ≡ true
     pub asked : new.asked ≡ old.asked
+    pub off : new.off ≡ false
     pub ended : (had : HasServedRows old.module_ (state old.array) old.kept old.asked)
         → (left : IsLeft old.module_.shape old.module_.seed false old.asked new.module_ (state new.array) new.kept.rows new.kept.told new.kept.prints new.kept.snapshots)
         × (told_along left.0 ≡ told_so_far had)
@@ -37,12 +38,12 @@ module _ {n m e : ℕ} {S : Type 0} (state : S → ArrayState n m) where
 pub record Hands {n m e : ℕ} {S : Type 0} (first : Option (Kept n)) (old new : Serving n m e S) : Type 0 where
   pub waiting : old.kept.sink.waiting ≡ option_to_list first ++ new.kept.sink.waiting
   pub taken : new.kept.sink.taken ≡ old.kept.sink.taken ++ option_to_list first
-  pub lost : new.kept.sink.lost ≡ old.kept.sink.lost
   pub module_ : new.module_ ≡ old.module_
   pub array : new.array ≡ old.array
   pub asked : new.asked ≡ old.asked
   pub told : new.kept.told ≡ old.kept.told
   pub rows : new.kept.rows ≡ old.kept.rows
+  pub off : new.off ≡ old.off
 
 -- what is asked of a module with lines of either size
 abbrev pub Row : Type 0

@@ -1,6 +1,8 @@
 // Calls of a module with lines of any size.
-ghost use Rattle.std.specs.Prelude.{◌≡◌, ◌≢◌, ◌≤◌, None, Some};
-ghost use Rattle.trace_stream.specs.declared.asked.Asked.TheVariants.{Settle, Until as Waits};
+ghost use Rattle.std.specs.Prelude.{◌≡◌, ◌≢◌, ◌≤◌, None, Some, replicate};
+ghost use Rattle.masked_bytes.specs.Masked.{laid};
+ghost use Rattle.trace_reader.specs.declared.event.EventOp.TheVariants.{Cut, Mask, Read, Write};
+ghost use Rattle.trace_stream.specs.declared.asked.Asked.TheVariants.{Happens, Settle, Until as Waits};
 ghost use Rattle.pcm_library.specs.declared.keeper.Kept.{Kept};
 ghost use Rattle.pcm_c.specs.Calls.{Finishes, Hands, Takes};
 ghost use Rattle.pcm_c.specs.Telling.{IsTold};
@@ -9,6 +11,78 @@ use crate::outcome::{ModuleOutcome, tell};
 use crate::status::{Status, told};
 use cell_rows::CellArray;
 use pcm_library::Session;
+
+/// A read of a line comes.
+pub(crate) fn read<const B: usize, const M: usize, const E: usize, A: CellArray<B, M> + Drop>(
+    session: &mut Session<B, M, E, A>,
+    tick: u64,
+    line: u32,
+) -> Status
+    ensures done { result ≡ Status.Done → Takes A.state (Happens (record {
+      tick = tick;
+      op = Read line;
+    })) session.old session.new }
+    ensures rest { result ≢ Status.Done → session.new ≡ session.old }
+{
+    told(session.read(tick, line))
+}
+
+/// A write of a whole line comes.
+pub(crate) fn write<const B: usize, const M: usize, const E: usize, A: CellArray<B, M> + Drop>(
+    session: &mut Session<B, M, E, A>,
+    tick: u64,
+    line: u32,
+    bytes: &[u8],
+) -> Status
+    requires few { B ≤ 128 }
+    ensures done { result ≡ Status.Done → Takes A.state (Happens (record {
+      tick = tick;
+      op = Write line bytes.now;
+    })) session.old session.new }
+    ensures rest { result ≢ Status.Done → session.new ≡ session.old }
+{
+    let Some(bytes) = bytes.as_array() else {
+        return Status::Size;
+    };
+    told(session.write(tick, line, bytes))
+}
+
+/// A write of the bytes of a line that are given comes.
+pub(crate) fn write_masked<
+    const B: usize,
+    const M: usize,
+    const E: usize,
+    A: CellArray<B, M> + Drop,
+>(session: &mut Session<B, M, E, A>, tick: u64, line: u32, bytes: &[u8], given: &[bool]) -> Status
+    requires few { B ≤ 128 }
+    ensures done { result ≡ Status.Done → Takes A.state (Happens (record {
+      tick = tick;
+      op = Mask line (laid bytes.now given.now (replicate B 0)) given.now;
+    })) session.old session.new }
+    ensures rest { result ≢ Status.Done → session.new ≡ session.old }
+{
+    let Some(bytes) = bytes.as_array() else {
+        return Status::Size;
+    };
+    let Some(given) = given.as_array() else {
+        return Status::Size;
+    };
+    told(session.write_masked(tick, line, bytes, given))
+}
+
+/// The power is cut.
+pub(crate) fn cut<const B: usize, const M: usize, const E: usize, A: CellArray<B, M> + Drop>(
+    session: &mut Session<B, M, E, A>,
+    tick: u64,
+) -> Status
+    ensures done { result ≡ Status.Done → Takes A.state (Happens (record {
+      tick = tick;
+      op = Cut;
+    })) session.old session.new }
+    ensures rest { result ≢ Status.Done → session.new ≡ session.old }
+{
+    told(session.cut(tick))
+}
 
 /// The first outcome that waits is told to C.
 pub(crate) fn next<const B: usize, const M: usize, const E: usize, A: CellArray<B, M> + Drop>(

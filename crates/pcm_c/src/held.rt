@@ -1,23 +1,22 @@
 // A module over the array whose cells wear out as a seed says, with lines of one of the two sizes.
-ghost use Rattle.std.specs.Prelude.{◌≡◌, ◌≢◌, ◌<◌, IfOk, false, true};
-ghost use Rattle.module_shape.specs.Limits.{total_of};
+ghost use Rattle.std.specs.Prelude.{◌≡◌, ◌≢◌, IfOk, false, replicate, true};
+ghost use Rattle.masked_bytes.specs.Masked.{laid};
 ghost use Rattle.cell_rows.specs.Device.{IsWear};
 ghost use Rattle.pcm_cells.specs.Seeded.{seeded_state};
-ghost use Rattle.trace_reader.specs.declared.event.EventOp.TheVariants.{Read, Write, Cut};
+ghost use Rattle.trace_reader.specs.declared.event.EventOp.TheVariants.{Cut, Mask, Read, Write};
 ghost use Rattle.trace_stream.specs.declared.asked.Asked.TheVariants.{Happens, Settle, Until as Waits};
-ghost use Rattle.pcm_c.specs.Calls.{Begins, FinishesRows, Takes, TakesRow, lines_at, rows_at, tick_at, waiting_at};
+ghost use Rattle.pcm_c.specs.Calls.{Begins, FinishesRows, TakesRow, lines_at, rows_at, tick_at, waiting_at};
 ghost use Rattle.pcm_c.specs.Opening.{BeginsWith};
 ghost use Rattle.pcm_c.specs.Telling.{HandsNothing, HandsTold, LacksBank, TellsBank};
 
 use crate::backlog::{ModuleBacklog, tell};
-use crate::calls::{finish, next, settle, settle_until};
+use crate::calls::{cut, finish, next, read, settle, settle_until, write, write_masked};
 use crate::options::Chosen;
 use crate::outcome::ModuleOutcome;
-use crate::status::{Status, told};
+use crate::status::Status;
 use pcm_cells::MemArray;
-use pcm_library::{Answer, Session};
+use pcm_library::Session;
 use std::alloc::{AllocError, Global};
-use trace_reader::{Event, EventOp};
 
 /// A module whose lines have 64 bytes.
 pub type NarrowSession = Session<64, 8, 6, MemArray<64, 8>>;
@@ -50,40 +49,6 @@ fn wide(alloc: Global, chosen: &Chosen) -> Result<WideSession, AllocError>
     Session::new(alloc, chosen.shape, chosen.wear.seed, chosen.wear, array)
 }
 
-fn write_narrow(session: &mut NarrowSession, tick: u64, line: u32, bytes: &[u8]) -> Status
-    requires exists { line < total_of session.old.module_.shape }
-    ensures done { result ≡ Status.Done → Takes seeded_state (Happens (record {
-      tick = tick;
-      op = Write line bytes.now;
-    })) session.old session.new }
-    ensures rest { result ≢ Status.Done → session.new ≡ session.old }
-{
-    let Some(bytes) = bytes.as_array() else {
-        return Status::Size;
-    };
-    told(session.event(&Event {
-        tick,
-        op: EventOp::Write(line, *bytes),
-    }))
-}
-
-fn write_wide(session: &mut WideSession, tick: u64, line: u32, bytes: &[u8]) -> Status
-    requires exists { line < total_of session.old.module_.shape }
-    ensures done { result ≡ Status.Done → Takes seeded_state (Happens (record {
-      tick = tick;
-      op = Write line bytes.now;
-    })) session.old session.new }
-    ensures rest { result ≢ Status.Done → session.new ≡ session.old }
-{
-    let Some(bytes) = bytes.as_array() else {
-        return Status::Size;
-    };
-    told(session.event(&Event {
-        tick,
-        op: EventOp::Write(line, *bytes),
-    }))
-}
-
 impl Held {
     /// A module as it was chosen.
     pub(crate) fn new(alloc: Global, chosen: &Chosen) -> Result<Held, AllocError>
@@ -97,27 +62,6 @@ impl Held {
         Ok(Held::Narrow(narrow(alloc, chosen)?))
     }
 
-    // A read comes, whose line is one of the module's.
-    fn take_read(&mut self, tick: u64, line: u32) -> Answer
-        requires exists { line < lines_at self.old }
-        ensures done { result ≡ Answer.Done → TakesRow (λ n. Happens (record {
-          tick = tick;
-          op = Read line;
-        })) self.old self.new }
-        ensures rest { result ≢ Answer.Done → self.new ≡ self.old }
-    {
-        match self {
-            Held::Narrow(session) => session.event(&Event {
-                tick,
-                op: EventOp::Read(line),
-            }),
-            Held::Wide(session) => session.event(&Event {
-                tick,
-                op: EventOp::Read(line),
-            }),
-        }
-    }
-
     /// A read of a line comes.
     pub(crate) fn read(&mut self, tick: u64, line: u32) -> Status
         ensures done { result ≡ Status.Done → TakesRow (λ n. Happens (record {
@@ -126,24 +70,9 @@ impl Held {
         })) self.old self.new }
         ensures rest { result ≢ Status.Done → self.new ≡ self.old }
     {
-        if line >= self.lines() {
-            return Status::NoLine;
-        }
-        told(self.take_read(tick, line))
-    }
-
-    // A write comes, whose line is one of the module's.
-    fn take_write(&mut self, tick: u64, line: u32, bytes: &[u8]) -> Status
-        requires exists { line < lines_at self.old }
-        ensures done { result ≡ Status.Done → TakesRow (λ n. Happens (record {
-          tick = tick;
-          op = Write line bytes.now;
-        })) self.old self.new }
-        ensures rest { result ≢ Status.Done → self.new ≡ self.old }
-    {
         match self {
-            Held::Narrow(session) => write_narrow(session, tick, line, bytes),
-            Held::Wide(session) => write_wide(session, tick, line, bytes),
+            Held::Narrow(session) => read(session, tick, line),
+            Held::Wide(session) => read(session, tick, line),
         }
     }
 
@@ -155,29 +84,29 @@ impl Held {
         })) self.old self.new }
         ensures rest { result ≢ Status.Done → self.new ≡ self.old }
     {
-        if line >= self.lines() {
-            return Status::NoLine;
+        match self {
+            Held::Narrow(session) => write(session, tick, line, bytes),
+            Held::Wide(session) => write(session, tick, line, bytes),
         }
-        self.take_write(tick, line, bytes)
     }
 
-    // The power is cut, where it may be.
-    fn take_cut(&mut self, tick: u64) -> Answer
-        ensures done { result ≡ Answer.Done → TakesRow (λ n. Happens (record {
+    /// A write of the bytes of a line that are given comes.
+    pub(crate) fn write_masked(
+        &mut self,
+        tick: u64,
+        line: u32,
+        bytes: &[u8],
+        given: &[bool],
+    ) -> Status
+        ensures done { result ≡ Status.Done → TakesRow (λ n. Happens (record {
           tick = tick;
-          op = Cut;
+          op = Mask line (laid bytes.now given.now (replicate n 0)) given.now;
         })) self.old self.new }
-        ensures rest { result ≢ Answer.Done → self.new ≡ self.old }
+        ensures rest { result ≢ Status.Done → self.new ≡ self.old }
     {
         match self {
-            Held::Narrow(session) => session.event(&Event {
-                tick,
-                op: EventOp::Cut,
-            }),
-            Held::Wide(session) => session.event(&Event {
-                tick,
-                op: EventOp::Cut,
-            }),
+            Held::Narrow(session) => write_masked(session, tick, line, bytes, given),
+            Held::Wide(session) => write_masked(session, tick, line, bytes, given),
         }
     }
 
@@ -189,7 +118,10 @@ impl Held {
         })) self.old self.new }
         ensures rest { result ≢ Status.Done → self.new ≡ self.old }
     {
-        told(self.take_cut(tick))
+        match self {
+            Held::Narrow(session) => cut(session, tick),
+            Held::Wide(session) => cut(session, tick),
+        }
     }
 
     /// Every bank comes to a tick.

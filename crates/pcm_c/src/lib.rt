@@ -1,9 +1,10 @@
 //! A module in the process of a C program: the functions of c/pcm.h. None requires more than valid pointers; what C can break says that header.
 #![tactic(auto)]
 
-ghost use Rattle.std.specs.Prelude.{◌≡◌, ◌≢◌, IfErr, IfOk, None, Some};
+ghost use Rattle.std.specs.Prelude.{◌≡◌, ◌≢◌, IfErr, IfOk, None, Some, replicate};
+ghost use Rattle.masked_bytes.specs.Masked.{laid};
 ghost use Rattle.cell_rows.specs.Device.{IsWear};
-ghost use Rattle.trace_reader.specs.declared.event.EventOp.TheVariants.{Cut, Read, Write};
+ghost use Rattle.trace_reader.specs.declared.event.EventOp.TheVariants.{Cut, Mask, Read, Write};
 ghost use Rattle.trace_stream.specs.declared.asked.Asked.TheVariants.{Happens, Settle, Until as Waits};
 ghost use Rattle.pcm_c.specs.Calls.{FinishesAt, TakesRowAt, lines_at, number_of, rows_at, tick_at, waiting_at};
 ghost use Rattle.pcm_c.specs.Opening.{AreRight, BeginsWith, OpensAt};
@@ -104,6 +105,30 @@ pub extern "C" fn pcm_module_write(pcm: &mut PcmModule, tick: u64, line: u32, by
         return Status::Closed.number();
     }
     pcm.handle.held().write(tick, line, bytes).number()
+}
+
+/// A write of the bytes of a line that are given comes.
+#[unsafe(no_mangle)]
+pub extern "C" fn pcm_module_write_masked(
+    pcm: &mut PcmModule,
+    tick: u64,
+    line: u32,
+    bytes: &[u8],
+    given: &[bool],
+) -> u32
+    ensures done { result ≡ 0 → TakesRowAt (λ n. Happens (record {
+      tick = tick;
+      op = Mask line (laid bytes.now given.now (replicate n 0)) given.now;
+    })) pcm.old.value pcm.new.value }
+    ensures rest { result ≢ 0 → pcm.new ≡ pcm.old }
+{
+    if !pcm.is_open {
+        return Status::Closed.number();
+    }
+    pcm.handle
+        .held()
+        .write_masked(tick, line, bytes, given)
+        .number()
 }
 
 /// A read of a line comes.

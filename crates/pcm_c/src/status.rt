@@ -73,6 +73,7 @@ pub(crate) fn told(answer: Answer) -> Status
         Answer::NoLine => Status::NoLine,
         Answer::NoRow => Status::NoRow,
         Answer::TooMany => Status::TooMany,
-        Answer::Lost => Status::NoMemory,
+        Answer::NoBytes => Status::Mask,
+        Answer::NoMemory => Status::NoMemory,
     }
 }
