@@ -95,6 +95,7 @@ static void what_cannot_come_is_refused_and_changes_nothing(void)
     const bool none[64] = {false};
     check(pcm_module_write_masked(&pcm, 0, 0, bytes, 64, none, 64) == PCM_MODULE_MASK, "a mask that gives nothing");
     check(pcm_module_write_masked(&pcm, 0, 0, bytes, 64, none, 63) == PCM_MODULE_SIZE, "a mask of another size");
+    check(pcm_module_write_masked(&pcm, 0, 512, bytes, 64, none, 63) == PCM_MODULE_NO_LINE, "a mask of another size, to no line");
     check(pcm_module_settle_until(&pcm, 0, 0) == PCM_MODULE_NO_ROW && pcm_module_settle_until(&pcm, 1, 0) == PCM_MODULE_NO_ROW, "no such row");
     check(pcm_module_bank(&pcm, 4, &bank) == PCM_MODULE_NO_BANK && bank.writes == 9, "no such bank");
     check(pcm_module_read(&pcm, last + 1, 0) == PCM_MODULE_LATE && pcm_module_settle(&pcm, UINT64_MAX) == PCM_MODULE_LATE, "too late");
@@ -203,6 +204,29 @@ static void long_lines_have_128_bytes(void)
     pcm_module_close(&pcm);
 }
 
+static void masked_writes_give_some_bytes(void)
+{
+    struct pcm_module_options options = PCM_MODULE_DEFAULTS;
+    struct pcm_module pcm = opened(&options);
+    struct pcm_module_outcome outcome = {0, 0, 0, 0, 0, {0}};
+    uint8_t bytes[64], other[64], wanted[64];
+    bool given[64];
+    for (int i = 0; i < 64; i++) {
+        bytes[i] = (uint8_t)(3 * i);
+        other[i] = (uint8_t)(255 - i);
+        given[i] = i % 5 == 2;
+        wanted[i] = given[i] ? other[i] : bytes[i];
+    }
+    check(pcm_module_write(&pcm, 0, 9, bytes, 64) == PCM_MODULE_OK && pcm_module_settle(&pcm, 1000) == PCM_MODULE_OK, "a line is written");
+    check(pcm_module_write_masked(&pcm, 1000, 9, other, 64, given, 64) == PCM_MODULE_OK, "some bytes of it are written over");
+    check(pcm_module_settle(&pcm, 2000) == PCM_MODULE_OK && pcm_module_read(&pcm, 2000, 9) == PCM_MODULE_OK, "it is read");
+    check(pcm_module_finish(&pcm) == PCM_MODULE_OK, "it ends");
+    while (outcome.row != 3 && pcm_module_next(&pcm, &outcome) == PCM_MODULE_OK)
+        continue;
+    check(outcome.kind == PCM_MODULE_READ && outcome.size == 64 && memcmp(outcome.bytes, wanted, 64) == 0, "the others have stayed");
+    pcm_module_close(&pcm);
+}
+
 static void banks_tell_what_waits(void)
 {
     struct pcm_module_options options = PCM_MODULE_DEFAULTS;
@@ -237,6 +261,7 @@ int main(void)
     options_out_of_range_are_told();
     two_modules_share_nothing();
     long_lines_have_128_bytes();
+    masked_writes_give_some_bytes();
     banks_tell_what_waits();
     printf("%d passed, %d failed\n", passed, failed);
     return failed != 0;

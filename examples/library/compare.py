@@ -11,6 +11,7 @@ import random
 import subprocess
 import sys
 
+
 def module(draw):
     """Sizes, pace and wear of a module, as words have them."""
     sizes = {"banks": (1, 2, 4, 8, 16), "regions": (1, 2, 4), "lines": (4, 8, 16, 64), "line": (64, 64, 64, 128), "spares": (0, 1, 2, 8)}

@@ -113,19 +113,27 @@ static void wants_row(struct known *it, uint32_t status, uint64_t tick, bool has
 
 static uint32_t total_of(const struct known *it) { return it->pcm.is_open ? it->options.banks * it->options.regions * it->options.lines : 0; }
 
+/* A write of a line, or of those bytes of it that are given. */
 static void writes(struct known *it)
 {
     uint8_t bytes[160];
-    for (size_t i = 0; i < sizeof bytes; i++)
+    bool given[160], is_masked = below(3) == 0, gives_some = !is_masked;
+    size_t usual = it->options.line, size = below(12) ? usual : below(sizeof bytes), count = below(12) ? size : below(sizeof bytes);
+    uint32_t share = below(5), line = any(total_of(it) + 1);
+    for (size_t i = 0; i < sizeof bytes; i++) {
         bytes[i] = (uint8_t)(drawn() >> 40);
-    size_t usual = it->options.line, size = below(12) ? usual : below(sizeof bytes);
-    uint32_t line = any(total_of(it) + 1);
+        given[i] = below(4) < share;
+        gives_some |= i < count && given[i];
+    }
     uint64_t tick = tick_of(it);
-    uint32_t status = pcm_module_write(&it->pcm, tick, line, bytes, size);
+    uint32_t status = is_masked ? pcm_module_write_masked(&it->pcm, tick, line, bytes, size, given, count)
+                                : pcm_module_write(&it->pcm, tick, line, bytes, size);
     if (it->pcm.is_open && line >= total_of(it))
         wants(status == PCM_MODULE_NO_LINE, "a write to no line");
-    else if (it->pcm.is_open && size != usual)
+    else if (it->pcm.is_open && (size != usual || (is_masked && count != usual)))
         wants(status == PCM_MODULE_SIZE, "a write of another size");
+    else if (it->pcm.is_open && !gives_some)
+        wants(status == PCM_MODULE_MASK, "a write that gives no byte");
     else
         wants_row(it, status, tick, true);
 }

@@ -41,6 +41,9 @@ pub(crate) fn write<const B: usize, const M: usize, const E: usize, A: CellArray
     })) session.old session.new }
     ensures rest { result ≢ Status.Done → session.new ≡ session.old }
 {
+    if line >= session.lines() {
+        return Status::NoLine;
+    }
     let Some(bytes) = bytes.as_array() else {
         return Status::Size;
     };
@@ -61,6 +64,9 @@ pub(crate) fn write_masked<
     })) session.old session.new }
     ensures rest { result ≢ Status.Done → session.new ≡ session.old }
 {
+    if line >= session.lines() {
+        return Status::NoLine;
+    }
     let Some(bytes) = bytes.as_array() else {
         return Status::Size;
     };
