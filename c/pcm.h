@@ -138,7 +138,7 @@ uint32_t pcm_module_write_masked(struct pcm_module *pcm, uint64_t tick, uint32_t
 uint32_t pcm_module_read(struct pcm_module *pcm, uint64_t tick, uint32_t line);
 /* The power is cut, and is there again at once. Those of every row. */
 uint32_t pcm_module_cut(struct pcm_module *pcm, uint64_t tick);
-/* Every bank goes on to a tick. It has no number, and is refused as rows are. */
+/* Every bank goes on to a tick. It has no number. PCM_MODULE_CLOSED, PCM_MODULE_ENDED, PCM_MODULE_LATE. */
 uint32_t pcm_module_settle(struct pcm_module *pcm, uint64_t tick);
 /* Every bank goes on only until a row has its outcome, from the tick that was reached, and to `limit` where it has none by then; pcm_module_tick tells
    how far. PCM_MODULE_NO_ROW, and as a settle. */
