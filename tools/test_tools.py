@@ -291,8 +291,10 @@ class Builds(unittest.TestCase):
         shutil.copy(TOP / ".ci" / "run", self.room.top / ".ci")
         self.room.script(self.room.top / "tools" / "test", "#!/bin/sh\necho tests\nexit 3\n")
         (self.room.top / "crates.txt").write_text("first:\npcm_stream: first\n")
+        self.room.add_library()
         done = self.room.run(".ci/run", CI="", RT_JOBS="5")
-        self.assertEqual((done.returncode, done.stdout.splitlines()[-2:]), (3, ["rt: pcm_stream proved", "tests"]), done.stderr)
+        self.assertEqual((done.returncode, done.stdout.splitlines()[-1]), (3, "tests"), done.stderr)
+        self.assertTrue((self.room.top / "crates" / "pcm_c" / "out" / "libpcm.a").is_file())
         self.assertEqual((self.room.kit / "jobs").read_text(), "5")
         (self.room.top / "crates" / "first" / "src" / "lib.rt").write_text("wrong\n")
         done = self.room.run(".ci/run", CI="")
@@ -1107,8 +1109,9 @@ class Tested(unittest.TestCase):
         for path, does in (
             ("tools/lint", counts), ("tools/test_tools.py", "echo 'Ran 3 tests in 0s'"), ("docs/test_checking.py", "echo 'Ran 4 tests in 0s'"),
             ("docs/check", f'printf "documents: %s\\n" "$*"; {counts}'), ("examples/check", f'printf "examples:"; printf " (%s)" "$@"; echo; {counts}'),
-            ("tools/wrong", "echo '1 crates to be tried: low'; exit 1"),
+            ("examples/library/check", f'printf "library: %s\\n" "$*"; {counts}'), ("tools/wrong", "echo '1 crates to be tried: low'; exit 1"),
         ):
+            (self.top / path).parent.mkdir(exist_ok=True)
             Room.script(self.top / path, f"#!/bin/sh\n{does}\n")
 
     def build(self, *names):
@@ -1122,19 +1125,24 @@ class Tested(unittest.TestCase):
 
     def test_with_all_programs(self):
         self.build(*PROGRAMS)
+        (self.top / "crates" / "pcm_c" / "out").mkdir(parents=True)
+        (self.top / "crates" / "pcm_c" / "out" / "libpcm.so.1").touch()
         files = [f"crates/{name}/out/{name}" for name in PROGRAMS]
         told = [f"documents: {files[0]}", f"examples: {' '.join(f'({it})' for it in files)}", "tools/test: wrong bodies of wrong/: 1 crates to be tried: low"]
-        self.says(*told, "13 passed, 0 failed")
+        library = f"library: {files[1]}"
+        self.says(library, *told, "15 passed, 0 failed")
         (self.top / "crates" / "low" / "src" / "lib.rt").write_text("")
         os.utime(self.top / "crates" / "low" / "src" / "lib.rt", (2**31, 2**31))
-        self.says(*(f"tools/test: {it} is older than some text: it is tried as it is" for it in files), *told, "13 passed, 0 failed")
+        old = [f"tools/test: {it} is older than some text: it is tried as it is" for it in (*files, "crates/pcm_c/out/libpcm.so.1")]
+        self.says(*old, library, *told, "15 passed, 0 failed")
 
     def test_without_some(self):
         self.build("pcm_cli", "pcm_explain")
         lacks = [f"tools/test: what wants {it}: skipped: it isn't built (tools/build {it})" for it in ("pcm_stream", "pcm_view")]
+        lacks.append("tools/test: what wants libpcm: skipped: it isn't built (tools/build library)")
         lacks.append("tools/test: commands that documents show: skipped: not all programs are built")
         told = ["documents: ", "examples: (crates/pcm_cli/out/pcm_cli) () (crates/pcm_explain/out/pcm_explain) ()"]
-        self.says(*lacks, *told, "tools/test: wrong bodies of wrong/: 1 crates to be tried: low", "13 passed, 0 failed, 3 skipped")
+        self.says(*lacks, *told, "tools/test: wrong bodies of wrong/: 1 crates to be tried: low", "13 passed, 0 failed, 4 skipped")
 
 
 class Counting(unittest.TestCase):

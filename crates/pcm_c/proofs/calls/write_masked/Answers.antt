@@ -14,5 +14,5 @@ returns-clause-done g c = λ done. let takes = c.write_masked.ensures.takes (c.t
     c.in-Some.ensures.cases.same
     (subst (λ (given : List Bool). Takes g.A.CellArray.state (Happens (record { tick = c.args.tick; op = Mask c.args.line (laid c.in-Some.bytes.now given under) given }))
     c.args.session.now c.write_masked.new.self)
-    c.in-Some-given.ensures.cases.same
+    c.in-Some-as_array.ensures.cases.same
     (record { asked = takes.asked; serves = takes.serves; taken = takes.taken }))
