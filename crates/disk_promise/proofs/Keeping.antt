@@ -16,7 +16,8 @@ use Rattle.disk_lines.proofs.Placing.{place-exists}
 use Rattle.disk_promise.specs.Keeping.{DiskLaw, bytes_kept}
 
 -- what stands for a line is what its rows gave it
-module _ (moment : MomentLaw) {n m e : ℕ} (module_ : ModuleState n m e) (array : ArrayState n m) (heard : List (Heard n)) (is : IsShape module_.shape) (has : HasHeard module_ array heard) where
+module _ (moment : MomentLaw) {n m e : ℕ} (module_ : ModuleState n m e) (array : ArrayState n m) (heard : List (Heard n)) (is : IsShape module_.shape)
+    (has : HasHeard module_ array heard) where
   stands-by-rows : (place : ℕ) → place < total_of module_.shape → stand_now module_ array place ≡ newest (rows_heard heard) place
   stands-by-rows place exists =
       (moment n m e module_.shape module_.seed (events_in heard) has.history module_ array (table_in heard) is has.served).stands place exists
@@ -26,7 +27,9 @@ pub disk-law : AgreeLaw → MomentLaw → DiskLaw
 disk-law agree moment n m e module_ array heard layout asked is fits has served = record {
   served = served;
   kept = agree n layout (total_of module_.shape) (bytes_by_rows module_ heard) (bytes_kept module_ array) served.writes fits
-      (λ line exists. stands-by-rows moment module_ array heard is has (place_of module_.shape module_.seed line) (place-exists module_.shape module_.seed is line exists)) served.rows;
+      (λ line exists.
+      stands-by-rows moment module_ array heard is has (place_of module_.shape module_.seed line) (place-exists module_.shape module_.seed is line exists))
+      served.rows;
 }
 
 -- nothing was asked of a new disk

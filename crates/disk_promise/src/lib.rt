@@ -1,5 +1,5 @@
-//! A disk of bytes on a module of phase-change memory: what was asked of it, what it answered, and that each byte that was acknowledged is
-//! kept, in the array or in a protected queue.
+//! A disk of bytes on a module of phase-change memory: what was asked of it, what it answered, and
+//! that each byte that was acknowledged is kept, in the array or in a protected queue.
 #![tactic(auto)]
 
 ghost use Rattle.std.specs.Prelude.{◌≡◌, [], List, IfOk, length};
@@ -21,8 +21,8 @@ use disk_rules::{Answer, Request, lines_that_agree_are_one_disk, new_lines_are_a
 use moment_laws::no_moment_loses_bytes;
 use std::alloc::{AllocError, Global};
 
-/// At any moment what is a disk by the rows of its module is kept, with nothing drained: in the array as it is, and in the queues. (A law: the
-/// function does nothing when it runs.)
+/// At any moment what is a disk by the rows of its module is kept, with nothing drained: in the
+/// array as it is, and in the queues. (A law: the function does nothing when it runs.)
 pub fn no_moment_loses_a_disk()
     ensures { DiskLaw }
 {
@@ -30,11 +30,14 @@ pub fn no_moment_loses_a_disk()
     no_moment_loses_bytes();
 }
 
-/// Serves requests by a module, whatever power cuts come, and however cells miss, tear or stick: the answers are those of a disk. Each read that is
-/// answered has, byte for byte, what the newest writes gave; a write that is acknowledged is made whole; and of one that is stopped some first bytes
-/// are made, up to the end of a sector, once and for all. Behind the last request each byte of these is decoded from the array or stands in a
-/// protected queue. No more requests are stopped, but for want of memory, than power cuts came and writes were refused, as long as the clock and the
-/// rows last. Where no memory is left for the list of answers, nothing is said of which were served.
+/// Serves requests by a module, whatever power cuts come, and however cells miss, tear or stick:
+/// the answers are those of a disk. Each read that is answered has, byte for byte, what the newest
+/// writes gave; a write that is acknowledged is made whole; and of one that is stopped some first
+/// bytes are made, up to the end of a sector, once and for all. Behind the last request each byte
+/// of these is decoded from the array or stands in a protected queue. No more requests are stopped,
+/// but for want of memory, than power cuts came and writes were refused, as long as the clock and
+/// the rows last. Where no memory is left for the list of answers, nothing is said of which were
+/// served.
 pub fn serve_disk<const B: usize, const M: usize, const E: usize, A: CellArray<B, M> + Drop>(
     alloc: Global,
     disk: &mut Disk<B>,

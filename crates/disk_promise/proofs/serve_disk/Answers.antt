@@ -12,9 +12,13 @@ returns-clause-kept g c =
     let now = c.serve_disk-served.new.lines in
     let array = g.A.CellArray.state now.array in
     let fits = subst (λ (count : ℕ). Fits g.row.B layout count) (sym c.serve_disk-served.ensures.count) c.requires.fits in
-    ok-so (λ answers. (asked : List (Request × Answer)) → IsServed g.row.B layout asked (writes_of c.args.lines.now.puts) → IsDiskByRows now.module_ now.heard layout (told asked c.args.requests.now answers.items))
-    (λ answers. (asked : List (Request × Answer)) → IsServed g.row.B layout asked (writes_of c.args.lines.now.puts) → IsDiskKept now.module_ array now.heard layout (told asked c.args.requests.now answers.items))
-    (λ answers had asked served. c.no_moment_loses_a_disk.ensures g.row.B g.row.M g.row.E now.module_ array now.heard layout (told asked c.args.requests.now answers.items) c.stands.ensures.shape fits c.serve_disk-served.ensures.has (had asked served))
+    let Was : List (Request × Answer) → Type 0 = λ asked. IsServed g.row.B layout asked (writes_of c.args.lines.now.puts) in
+    let all = c.args.requests.now in
+    ok-so (λ answers. (asked : List (Request × Answer)) → Was asked → IsDiskByRows now.module_ now.heard layout (told asked all answers.items))
+    (λ answers. (asked : List (Request × Answer)) → Was asked → IsDiskKept now.module_ array now.heard layout (told asked all answers.items))
+    (λ answers had asked served.
+    c.no_moment_loses_a_disk.ensures g.row.B g.row.M g.row.E now.module_ array now.heard layout (told asked all answers.items) c.stands.ensures.shape
+    fits c.serve_disk-served.ensures.has (had asked served))
     c.serve_disk-served.result c.serve_disk-served.ensures.served
 
 pub returns-clause-new : goal.returns-clause-new
@@ -23,8 +27,11 @@ returns-clause-new g c none =
     let now = c.serve_disk-served.new.lines in
     let array = g.A.CellArray.state now.array in
     let fits = subst (λ (count : ℕ). Fits g.row.B layout count) (sym c.serve_disk-served.ensures.count) c.requires.fits in
-    ok-so (λ answers. (asked : List (Request × Answer)) → IsServed g.row.B layout asked (writes_of c.args.lines.now.puts) → IsDiskByRows now.module_ now.heard layout (told asked c.args.requests.now answers.items))
-    (λ answers. IsDiskKept now.module_ array now.heard layout (told [] c.args.requests.now answers.items))
-    (λ answers had. c.no_moment_loses_a_disk.ensures g.row.B g.row.M g.row.E now.module_ array now.heard layout (told [] c.args.requests.now answers.items) c.stands.ensures.shape fits c.serve_disk-served.ensures.has
-    (had [] (new-served c.new_lines_are_a_new_disk.ensures layout c.args.lines.now.puts none)))
+    let Was : List (Request × Answer) → Type 0 = λ asked. IsServed g.row.B layout asked (writes_of c.args.lines.now.puts) in
+    let all = c.args.requests.now in
+    ok-so (λ answers. (asked : List (Request × Answer)) → Was asked → IsDiskByRows now.module_ now.heard layout (told asked all answers.items))
+    (λ answers. IsDiskKept now.module_ array now.heard layout (told [] all answers.items))
+    (λ answers had.
+    c.no_moment_loses_a_disk.ensures g.row.B g.row.M g.row.E now.module_ array now.heard layout (told [] all answers.items) c.stands.ensures.shape
+    fits c.serve_disk-served.ensures.has (had [] (new-served c.new_lines_are_a_new_disk.ensures layout c.args.lines.now.puts none)))
     c.serve_disk-served.result c.serve_disk-served.ensures.served
