@@ -1,6 +1,5 @@
 pub mod Places
 pub mod Placing
-pub mod Items
 pub mod Hearing
 pub mod Asking
 pub mod Lines

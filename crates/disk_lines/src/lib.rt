@@ -5,7 +5,6 @@
 mod cuts;
 mod laws;
 mod lines;
-mod list;
 mod masks;
 mod places;
 mod rows;

@@ -8,12 +8,12 @@ ghost use Rattle.disk_lines.specs.Asking.{HasHeard};
 ghost use Rattle.disk_lines.specs.Lines.{StandsByRows};
 
 use crate::cuts::Cuts;
-use crate::list::GhostList;
 use crate::places::Places;
 use crate::rows::Running;
 use crate::watch::Watch;
 use atomic_sectors::{Lines, Put, Stopped};
 use cell_rows::{CellArray, Wear};
+use ghost_list::GhostList;
 use module_shape::Shape;
 use pcm_module::Module;
 use std::alloc::{AllocError, Global};
@@ -31,7 +31,7 @@ pub struct PcmLines<const B: usize, const M: usize, const E: usize, A: CellArray
 
 impl<const B: usize, const M: usize, const E: usize, A: CellArray<B, M> + Drop> Model
     for PcmLines<B, M, E, A> {
-    ghost use Rattle.disk_lines.specs.Items.{newest};
+    ghost use Rattle.ghost_list.specs.Items.{newest};
     ghost use Rattle.disk_lines.specs.Lines.{OnModule, IsOnModule};
 
     ghost Value = { OnModule B M E A };

@@ -12,13 +12,6 @@ use masked_bytes::layers::{fill_under, has_all};
 use result_rows::Outcome;
 use trace_reader::EventOp;
 
-/// Whether some byte is given.
-pub(crate) fn has_some<const B: usize>(given: &[bool; B]) -> bool
-    ensures { result ≡ gives_some given.now }
-{
-    given.iter().any(|g| *g)
-}
-
 /// The operation that writes those bytes of a line that are given, at least one.
 pub(crate) fn write_op<const B: usize>(place: u32, bytes: &[u8; B], given: &[bool; B]) -> EventOp<B>
     requires short { B ≤ 128 }

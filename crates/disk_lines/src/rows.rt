@@ -10,11 +10,12 @@ ghost use Rattle.pcm_module.specs.State.{bank_at};
 ghost use Rattle.disk_lines.specs.Hearing.{events_in};
 
 use crate::cuts::Cuts;
-use crate::masks::{answer, has_some, is_accepted, is_open, write_op};
+use crate::masks::{answer, is_accepted, is_open, write_op};
 use crate::watch::Watch;
 use atomic_sectors::Stopped;
 use bank_timing::clocked::Timed;
 use cell_rows::CellArray;
+use masked_bytes::layers::has_some;
 use pcm_module::Module;
 use read_moments::{
     no_answer_is_wrong_meanwhile, no_row_takes_back_bytes, no_settle_takes_back_bytes,

@@ -7,7 +7,7 @@ ghost use Rattle.bank_timing.specs.Extending.{outcome_in};
 ghost use Rattle.disk_lines.specs.Hearing.{HearsOn, events_in, table_in};
 ghost use Rattle.disk_lines.specs.declared.watch.Heard.TheVariants.{Came as CameThen};
 
-use crate::list::GhostList;
+use ghost_list::GhostList;
 use result_rows::{Outcome, Outcomes};
 use std::marker::Model;
 use trace_reader::Event;
@@ -30,7 +30,7 @@ pub struct Watch<const B: usize> {
 }
 
 impl<const B: usize> Model for Watch<B> {
-    ghost use Rattle.disk_lines.specs.Items.{newest};
+    ghost use Rattle.ghost_list.specs.Items.{newest};
     ghost use Rattle.disk_lines.specs.Hearing.{Hearing, IsHearing};
 
     ghost Value = { Hearing B };

@@ -1,6 +1,6 @@
 //! Bytes laid over others, in place.
 ghost use Rattle.std.specs.Prelude.{◌≡◌, if◌then◌else◌};
-ghost use Rattle.masked_bytes.specs.Masked.{laid, joined, gives_all};
+ghost use Rattle.masked_bytes.specs.Masked.{laid, joined, gives_all, gives_some};
 
 // The byte above where it is given, and else that below. It has no branch: which bytes are given isn't known ahead.
 fn picked(given: bool, above: u8, below: u8) -> u8
@@ -42,4 +42,11 @@ pub fn has_all<const B: usize>(given: &[bool; B]) -> bool
     ensures { result ≡ gives_all given.now }
 {
     given.iter().all(|g| *g)
+}
+
+/// Whether some byte is given.
+pub fn has_some<const B: usize>(given: &[bool; B]) -> bool
+    ensures { result ≡ gives_some given.now }
+{
+    given.iter().any(|g| *g)
 }

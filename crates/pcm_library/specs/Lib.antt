@@ -1,4 +1,3 @@
-pub mod Items
 pub mod Keeping
 pub mod Serving
 pub mod Answers

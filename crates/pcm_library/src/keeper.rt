@@ -10,7 +10,7 @@ ghost use Rattle.row_printer.specs.declared.told.Shown.TheVariants.{Nothing};
 ghost use Rattle.row_printer.specs.declared.told.Told.TheVariants.{Settled};
 ghost use Rattle.pcm_library.specs.Keeping.{IsToldTo, KeepsOn, kept_of, open_in};
 
-use crate::list::GhostList;
+use ghost_list::GhostList;
 use result_rows::{Outcome, Outcomes};
 use row_printer::Told;
 use std::alloc::{AllocError, Global};
@@ -47,7 +47,7 @@ impl<const B: usize> Model for Keeper<B> {
     ghost use Rattle.row_printer.specs.Printing.{Printing};
     ghost use Rattle.row_printer.specs.declared.told.Shown.TheVariants.{Nothing};
     ghost use Rattle.pcm_io.specs.Reserved.{reserved};
-    ghost use Rattle.pcm_library.specs.Items.{items};
+    ghost use Rattle.ghost_list.specs.Items.{items};
     ghost use Rattle.pcm_library.specs.Keeping.{Waiting, IsKept};
 
     // A printer that prints nothing, to the queue of what waits.

@@ -3,7 +3,6 @@
 
 mod calls;
 mod keeper;
-mod list;
 mod looking;
 mod masking;
 mod serving;
@@ -11,7 +10,6 @@ mod session;
 mod waiting;
 
 pub use keeper::{Keeper, Kept};
-pub use list::GhostList;
 pub use looking::LineWear;
 pub use masking::masked;
 pub use session::{Answer, Session};

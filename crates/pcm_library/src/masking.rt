@@ -4,15 +4,8 @@ ghost use Rattle.masked_bytes.specs.Masked.{gives_some, laid};
 ghost use Rattle.trace_reader.specs.Events.{IsOpFor};
 ghost use Rattle.trace_reader.specs.declared.event.EventOp.TheVariants.{Mask};
 
-use masked_bytes::layers::lay_over;
+use masked_bytes::layers::{has_some, lay_over};
 use trace_reader::EventOp;
-
-// Whether some byte is given.
-fn has_some<const B: usize>(given: &[bool; B]) -> bool
-    ensures { result ≡ gives_some given.now }
-{
-    given.iter().any(|g| *g)
-}
 
 /// A write of those bytes of a line that are given, where some are: the others, of which nothing is used, become 0.
 pub fn masked<const B: usize>(line: u32, bytes: &[u8; B], given: &[bool; B]) -> Option<EventOp<B>>

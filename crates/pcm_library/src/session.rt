@@ -17,10 +17,10 @@ ghost use Rattle.pcm_library.specs.Keeping.{IsToldTo};
 ghost use Rattle.pcm_library.specs.Serving.{HasEndedRows, HasServedRows, most_open};
 
 use crate::keeper::{Keeper, Kept};
-use crate::list::GhostList;
 use crate::serving::{drain, serve_event, serve_settle, stay_off};
 use crate::waiting::serve_until;
 use cell_rows::{CellArray, Wear};
+use ghost_list::GhostList;
 use module_shape::Shape;
 use pcm_module::Module;
 use row_stream::{Behind, behind_asked};
@@ -73,7 +73,7 @@ pub struct Session<const B: usize, const M: usize, const E: usize, A: CellArray<
 
 impl<const B: usize, const M: usize, const E: usize, A: CellArray<B, M> + Drop> Model
     for Session<B, M, E, A> {
-    ghost use Rattle.pcm_library.specs.Items.{newest};
+    ghost use Rattle.ghost_list.specs.Items.{newest};
     ghost use Rattle.pcm_library.specs.Serving.{Serving, IsSession};
 
     ghost Value = { Serving B M E A };

@@ -4,4 +4,3 @@ pub mod Snapshots
 pub mod Refusing
 pub mod Printing
 pub mod GoingOn
-pub mod Items

@@ -1,7 +1,6 @@
 //! Prints what becomes of the rows of a trace as it becomes known, and counts it; it keeps no table.
 #![tactic(auto)]
 
-mod list;
 mod printer;
 mod snapshot;
 mod text;

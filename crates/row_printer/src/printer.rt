@@ -17,10 +17,10 @@ ghost use Rattle.row_printer.specs.Snapshots.{IsShown, is_due, takes_snapshots};
 ghost use Rattle.row_printer.specs.Refusing.{any_refused};
 ghost use Rattle.row_printer.specs.Printing.{IsPrinting, Prints, PrintsOn, stream_text, table_told, text_told};
 
-use crate::list::GhostList;
 use crate::snapshot::{Snapshot, print_snapshot, snapshots_header};
 use crate::text::{print_head, print_told};
 use crate::told::{ArrayWear, Backlog, Shown, Told};
+use ghost_list::GhostList;
 use pcm_io::{Sink, Text, WriteFault};
 use result_rows::{Outcome, Outcomes};
 use run_text::{Counts, make_room, print_rest, short_rows_are_counted};
@@ -48,7 +48,7 @@ pub struct RowPrinter<const B: usize, S: Sink + Drop> {
 }
 
 impl<const B: usize, S: Sink + Drop> Model for RowPrinter<B, S> {
-    ghost use Rattle.row_printer.specs.Items.{items};
+    ghost use Rattle.ghost_list.specs.Items.{items};
     ghost use Rattle.row_printer.specs.Printing.{Printing, IsTold};
 
     ghost Value = { Printing B S };

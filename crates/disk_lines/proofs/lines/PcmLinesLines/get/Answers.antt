@@ -2,7 +2,8 @@ use Rattle.std.proofs.Common.{◌≡◌, ℕ, ◌∙◌, List, ap, sym, subst}
 use Rattle.std.specs.Prelude.{IfOk}
 use Rattle.module_shape.specs.{Limits.IsShape, declared.raw.RawShape.RawShape}
 use Rattle.row_rules.specs.Rows.{newest}
-use Rattle.disk_lines.{specs.Asking.rows_heard, specs.Items.newest as listed, specs.Places.place_of, proofs.Asking.{rose-of, stops-later}, proofs.Making.stands-same}
+use Rattle.disk_lines.{specs.Asking.rows_heard, specs.Places.place_of, proofs.Asking.{rose-of, stops-later}, proofs.Making.stands-same}
+use Rattle.ghost_list.specs.Items.{newest as listed}
 use Rattle.disk_lines.proofs.lines.PcmLinesLines.get.Goals as goal
 
 pub invariant_of-self : goal.invariant_of-self

@@ -1,7 +1,8 @@
 use Rattle.std.proofs.Common.{ℕ, ◌∙◌, ap, sym, subst}
 use Rattle.module_shape.specs.{Limits.IsShape, declared.raw.RawShape.RawShape}
 use Rattle.pcm_io.specs.Faults.{Rose}
-use Rattle.disk_lines.{specs.Asking.{LaysOver, stops_at}, specs.Items.newest as listed, specs.Places.place_of, proofs.Asking.{stops-later, stops-rose}, proofs.Disks.on-err}
+use Rattle.disk_lines.{specs.Asking.{LaysOver, stops_at}, specs.Places.place_of, proofs.Asking.{stops-later, stops-rose}, proofs.Disks.on-err}
+use Rattle.ghost_list.specs.Items.{newest as listed}
 use Rattle.disk_lines.proofs.Making.{stands-put, stands-same}
 use Rattle.disk_lines.proofs.lines.PcmLinesLines.put.Goals as goal
 

@@ -1,6 +1,7 @@
 use Rattle.std.proofs.Common.{◌∙◌, sym}
 use Rattle.result_rows.proofs.TableLemmas.{length-with_outcome}
-use Rattle.disk_lines.{specs.Hearing.table_in, specs.Items.newest, proofs.Hearing.outcome-set}
+use Rattle.disk_lines.{specs.Hearing.table_in, proofs.Hearing.outcome-set}
+use Rattle.ghost_list.specs.Items.{newest}
 use Rattle.disk_lines.proofs.watch.WatchOutcomes.set.Goals as goal
 
 pub invariant_of-self : goal.invariant_of-self

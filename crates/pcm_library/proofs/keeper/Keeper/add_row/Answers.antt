@@ -1,6 +1,6 @@
 use Rattle.std.proofs.Common.{length, ap, arith}
 use Rattle.row_printer.proofs.Growing.{once-wider, table-longer}
-use Rattle.pcm_library.specs.Items.{items}
+use Rattle.ghost_list.specs.Items.{items}
 use Rattle.pcm_library.proofs.keeper.Keeper.add_row.Goals as goal
 
 pub invariant_of-self : goal.invariant_of-self

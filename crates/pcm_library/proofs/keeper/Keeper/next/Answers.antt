@@ -1,5 +1,6 @@
 use Rattle.std.proofs.Common.{◌++◌, ◌∙◌, length, ap, arith}
-use Rattle.pcm_library.{specs.Items.items, specs.Keeping.kept_pairs, proofs.Keeping.pairs-shift}
+use Rattle.pcm_library.{specs.Keeping.kept_pairs, proofs.Keeping.pairs-shift}
+use Rattle.ghost_list.specs.Items.{items}
 use Rattle.pcm_library.proofs.keeper.Keeper.next.Goals as goal
 
 pub invariant_of-self : goal.invariant_of-self

@@ -1,6 +1,6 @@
 use Rattle.std.proofs.Common.{[], ◌∷◌, ◌∙◌, refl}
 use Rattle.row_printer.{specs.declared.told.Told.TheVariants.Settled, proofs.Telling.outcomes-same}
-use Rattle.pcm_library.specs.Items.{items}
+use Rattle.ghost_list.specs.Items.{items}
 use Rattle.pcm_library.proofs.keeper.Keeper.settled.Goals as goal
 
 pub invariant_of-self : goal.invariant_of-self

@@ -2,7 +2,8 @@ use Rattle.std.proofs.Common.{◌≡◌, List, ℕ, [], ◌∷◌, ◌++◌, ◌
 use Rattle.std.proofs.lemmas.List.{length_push}
 use Rattle.result_rows.{specs.declared.Outcome.Outcome, proofs.Sizes.outcome_fits}
 use Rattle.row_printer.{specs.Telling.outcomes_in, proofs.Telling.outcomes-more}
-use Rattle.pcm_library.{specs.Items.items, specs.Keeping.{kept_of, kept_pairs}, specs.declared.keeper.Kept.Kept, proofs.Counting.some-untold}
+use Rattle.pcm_library.{specs.Keeping.{kept_of, kept_pairs}, specs.declared.keeper.Kept.Kept, proofs.Counting.some-untold}
+use Rattle.ghost_list.specs.Items.{items}
 use Rattle.pcm_library.proofs.{Keeping.{pairs-more, table-set, tells-next}, Sizes.kept_fits}
 use Rattle.pcm_library.proofs.keeper.KeeperOutcomes.set.Goals as goal
 

@@ -2,7 +2,8 @@ use Rattle.std.proofs.Common.{refl, ◌∷◌, sym, ◌∙◌, arith, ◌+◌, a
 use Rattle.std.proofs.lemmas.Bool.{false≢true}
 use Rattle.trace_stream.specs.declared.asked.Asked.TheVariants.{Settle}
 use Rattle.module_shape.specs.declared.raw.RawShape.{RawShape}
-use Rattle.pcm_library.{specs.Items.newest, specs.Serving.most_open, proofs.Beginning.own-serving}
+use Rattle.pcm_library.{specs.Serving.most_open, proofs.Beginning.own-serving}
+use Rattle.ghost_list.specs.Items.{newest}
 use Rattle.pcm_library.proofs.session.Session.settle_at.Goals as goal
 
 pub serve_settle-requires : goal.serve_settle-requires

@@ -2,7 +2,8 @@ use Rattle.std.proofs.Common.{◌≡◌, ℕ, ◌+◌, true, sym, ◌∙◌, ap,
 use Rattle.std.proofs.lemmas.Bool.{false≢true}
 use Rattle.row_stream.specs.{Ending.{IsLeft, told_along}, Serving.{IsServing, told_so_far}}
 use Rattle.module_shape.specs.declared.raw.RawShape.{RawShape}
-use Rattle.pcm_library.{specs.Items.newest, specs.Serving.{Serving, most_open}, proofs.Beginning.own-ended}
+use Rattle.pcm_library.{specs.Serving.{Serving, most_open}, proofs.Beginning.own-ended}
+use Rattle.ghost_list.specs.Items.{newest}
 use Rattle.pcm_library.proofs.session.Session.stay_off.Goals as goal
 
 pub stay_off-requires : goal.stay_off-requires

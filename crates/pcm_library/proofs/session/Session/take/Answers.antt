@@ -3,7 +3,8 @@ use Rattle.std.proofs.lemmas.Bool.{false≢true}
 use Rattle.trace_reader.proofs.Sizes.{event_fits}
 use Rattle.module_shape.specs.declared.raw.RawShape.{RawShape}
 use Rattle.trace_stream.specs.declared.asked.Asked.TheVariants.{Happens}
-use Rattle.pcm_library.specs.{Answers.{Answers, refusal_behind}, Items.newest, Serving.{Serving, most_open}, declared.session.Answer.TheVariants.NoMemory}
+use Rattle.pcm_library.specs.{Answers.{Answers, refusal_behind}, Serving.{Serving, most_open}, declared.session.Answer.TheVariants.NoMemory}
+use Rattle.ghost_list.specs.Items.{newest}
 use Rattle.pcm_library.proofs.{Answering.lacks-memory, Beginning.own-serving, Few.few-open}
 use Rattle.pcm_library.proofs.session.Session.take.Goals as goal
 

@@ -2,7 +2,8 @@ use Rattle.std.proofs.Common.{refl, ◌≡◌, ℕ, ◌∷◌, ap, sym, ◌∙�
 use Rattle.std.proofs.lemmas.Bool.{false≢true}
 use Rattle.trace_stream.specs.{declared.asked.Asked.Asked, declared.asked.Asked.TheVariants.Until}
 use Rattle.module_shape.specs.declared.raw.RawShape.{RawShape}
-use Rattle.pcm_library.{specs.Items.newest, specs.Serving.most_open, proofs.Beginning.own-serving}
+use Rattle.pcm_library.{specs.Serving.most_open, proofs.Beginning.own-serving}
+use Rattle.ghost_list.specs.Items.{newest}
 use Rattle.pcm_library.proofs.session.Session.wait_for.Goals as goal
 
 pub serve_until-requires : goal.serve_until-requires

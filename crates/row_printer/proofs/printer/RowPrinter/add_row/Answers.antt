@@ -1,4 +1,5 @@
-use Rattle.row_printer.{specs.Items.items, proofs.Growing.{once-wider, table-longer, counted-longer}}
+use Rattle.row_printer.proofs.Growing.{once-wider, table-longer, counted-longer}
+use Rattle.ghost_list.specs.Items.{items}
 use Rattle.row_printer.proofs.printer.RowPrinter.add_row.Goals as goal
 
 pub invariant_of-self : goal.invariant_of-self

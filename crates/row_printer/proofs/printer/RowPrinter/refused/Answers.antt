@@ -1,4 +1,5 @@
-use Rattle.row_printer.{specs.Items.items, specs.Printing.table_of, proofs.Refused.{by-full, by-worn}}
+use Rattle.row_printer.{specs.Printing.table_of, proofs.Refused.{by-full, by-worn}}
+use Rattle.ghost_list.specs.Items.{items}
 use Rattle.row_printer.proofs.printer.RowPrinter.refused.Goals as goal
 
 pub returns-then-self-gt0 : goal.returns-then-self-gt0

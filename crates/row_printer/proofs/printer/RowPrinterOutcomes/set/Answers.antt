@@ -1,5 +1,6 @@
 use Rattle.std.proofs.Common.{rules, arith, [], ◌∷◌, refl}
-use Rattle.row_printer.{specs.Items.items, specs.Telling.outcomes_in, proofs.Rows.{tells-next, table-set, set-counted, few-counted}, proofs.Telling.outcomes-more}
+use Rattle.row_printer.{specs.Telling.outcomes_in, proofs.Rows.{tells-next, table-set, set-counted, few-counted}, proofs.Telling.outcomes-more}
+use Rattle.ghost_list.specs.Items.{items}
 use Rattle.row_printer.proofs.printer.RowPrinterOutcomes.set.Goals as goal
 
 pub count-requires : goal.count-requires
@@ -12,7 +13,7 @@ invariant_of-self g c =
     let exists = rw (← c.self.view_is) at c.requires.exists in
     let unset = rw (← c.self.view_is) at c.requires.unset in
     let told = items c.self.inside.told in
-    rw c.and.ensures (record {
+    rw c.and.ensures.items (record {
       few = c.self.invariant.few;
       shown = c.self.invariant.shown;
       limit = c.print_line-self-inside.ensures.limit;
@@ -21,16 +22,16 @@ invariant_of-self g c =
     })
 
 pub returns-clause-table : goal.returns-clause-table
-returns-clause-table g c = rw (c.and.ensures, ← c.self.view_is) (table-set c.self.inside.rows (items c.self.inside.told) c.args.row c.args.outcome)
+returns-clause-table g c = rw (c.and.ensures.items, ← c.self.view_is) (table-set c.self.inside.rows (items c.self.inside.told) c.args.row c.args.outcome)
 
 pub returns-clause-goes_on : goal.returns-clause-goes_on
 returns-clause-goes_on g c =
     rw (← c.self.view_is) (record {
       added = (c.args.row, c.args.outcome) ∷ [];
-      told = c.and.ensures;
+      told = c.and.ensures.items;
       snapshots = refl;
       rows = refl;
       prints = refl;
       printing = λ before first h.
-          rw c.and.ensures (c.print_line-self-inside.ensures.printed before first (items c.self.inside.told) (items c.self.inside.snapshots) (rw c.deref_mut.ensures.value h));
+          rw c.and.ensures.items (c.print_line-self-inside.ensures.printed before first (items c.self.inside.told) (items c.self.inside.snapshots) (rw c.deref_mut.ensures.value h));
     })

@@ -1,6 +1,8 @@
-// A list for contracts alone.
+//! A list that contracts alone read: what was told, asked or kept, item by item, of which no byte stands in memory.
+#![tactic(auto)]
+
 ghost use Rattle.std.specs.Prelude.{◌≡◌, [], ◌∷◌, ◌++◌};
-ghost use Rattle.pcm_library.specs.Items.{items, newest};
+ghost use Rattle.ghost_list.specs.Items.{items, newest};
 
 use std::snapshot::Snapshot;
 
