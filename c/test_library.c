@@ -1,18 +1,7 @@
 /* Tests of pcm.h over the library that it is linked with. Prints 'N passed, M failed'. */
 #include "pcm.h"
 #include "pcm_stream.h" /* (both may stand in one file) */
-
-static int passed, failed;
-
-static void check(int holds, const char *what)
-{
-    if (holds) {
-        passed++;
-    } else {
-        failed++;
-        fprintf(stderr, "failed: %s\n", what);
-    }
-}
+#include "test_checks.h"
 
 static struct pcm_module opened(const struct pcm_module_options *options)
 {
@@ -263,6 +252,5 @@ int main(void)
     long_lines_have_128_bytes();
     masked_writes_give_some_bytes();
     banks_tell_what_waits();
-    printf("%d passed, %d failed\n", passed, failed);
-    return failed != 0;
+    return checked();
 }
