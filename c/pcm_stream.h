@@ -1,4 +1,4 @@
-/* pcm_stream.h: a proved phase-change memory module behind a pipe, for simulators in C and C++.
+/* pcm_stream.h: a proved phase-change memory module behind a pipe, or in one's own process, for simulators in C and C++.
 
    One header, POSIX; it compiles as C11 and as C++17, with -pedantic-errors and without a macro of the caller's. It starts `pcm stream`, sends
    rows of a trace, and takes outcomes as they become known. Nothing is allocated, no thread is started, no signal is handled or raised; each
@@ -19,6 +19,13 @@
 
    Ticks are the simulation's own unit of time, from 0 to 2^40, and never fall. A line is a line of the module, from 0. What an option, a row
    or an outcome means is told by the repository's docs (USING.md, FORMATS.md).
+
+   With PCM_STREAM_LIBRARY defined before it is included, and pcm.h and pcm_stream_library.h beside it, the module is in the caller's own process, by
+   the library (pcm.h): no program is started, and the words in front of the first option are passed over. Functions and answers are the same, but:
+   a row is served as it is handed in, so what is wrong with it shows at once; options are those of a module, and of others only their defaults
+   (`--end drain`, `--until end`, `--input source`) and `--tell shape`: any other shows as one that the program refuses; pcm_look answers PCM_FAILED,
+   with ENOTSUP, and so do copies (pcm_copy.h); pcm_next, which would wait for ever where no outcome is to come, answers PCM_REFUSED; PCM_FULL comes
+   where PCM_MOST_SETTLES settles wait to be taken, and never else; memory is allocated; and nothing is left to send where pcm_close comes.
 
    A struct pcm is the caller's: it holds two descriptors, a process, and two buffers (some 80 KiB together), and must not be moved while it is
    open. One that is all zero, as a static one is, counts as closed. It isn't to be used by two threads at once.

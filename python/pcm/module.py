@@ -15,7 +15,12 @@ from .words import LARGE, LATEST_TICK, Handed, wrong_row
 
 
 class Module:
-    """A phase-change memory module behind a pipe.
+    """A phase-change memory module: behind a pipe, or in this process.
+
+    `way` says which: `"program"`, or `"library"`, libpcm.so.1, with the same answers; else the environment's PCM_WAY does. Where neither does it is
+    the library, where it is built, installed or in the wheel and can do what is asked for, and no program is named. The library makes no copies and
+    tells no wear, its options are those of a module (and `end="drain"`, `tell`), it knows from the start which lines there are, and no call of it
+    waits, so `progress` tells nothing.
 
     Rows are numbered from 1 in the order in which they are handed in; each call answers its row's number. Outcomes come from `settle`,
     `settle_until`, `finish` and `outcomes`, each once, in the order in which they become known. Rows may be handed in at any rate and
@@ -33,7 +38,7 @@ class Module:
     where the program was told so otherwise, the caller sets it (None: any).
 
     Options are those of `pcm stream`, with `_` for `-`, as `banks=4`, `write_queue=8`, `policy="cancel"`, `end="off"`. `program` names
-    the program (else the environment's PCM, or `./pcm` of the checkout). A call that waits for more than a second tells on standard error
+    the program (else the environment's PCM, or `./pcm` of the checkout) that is to serve it. A call that waits for more than a second tells on standard error
     how many rows have an outcome, and how many a second, where that is a terminal, or always with `progress=True`, or never with False.
 
     `log` is a text file to which the header is written, and each row with a number before it is sent: a trace that plays the same again by the
