@@ -10,6 +10,7 @@ from typing import Callable, Deque, Dict, Iterator, List, Optional
 
 from .errors import OutOfMemory, PcmError, TooLong, UsageError
 from .outcomes import KINDS, MARKS, Backlog, Outcome, Read, Shape, Stored, Wear
+from .program import words_of
 from .rows import Given
 from .words import COMMANDS, wrong_word
 
@@ -72,12 +73,14 @@ def _loaded(path: str) -> ctypes.CDLL:
     calls = ctypes.CDLL(path)
     at, tick, line, size = ctypes.c_void_p, ctypes.c_uint64, ctypes.c_uint32, ctypes.c_size_t
     arguments = {
-        "open": (at, at), "bad_option": (at,), "write": (at, tick, line, ctypes.c_char_p, size), "read": (at, tick, line), "cut": (at, tick),
+        "open": (at, at), "write": (at, tick, line, ctypes.c_char_p, size), "read": (at, tick, line), "cut": (at, tick),
         "write_masked": (at, tick, line, ctypes.c_char_p, size, ctypes.c_char_p, size), "settle": (at, tick), "settle_until": (at, line, tick),
-        "finish": (at,), "next": (at, at), "bank": (at, line, at), "lines": (at,),
+        "finish": (at,), "next": (at, at), "bank": (at, line, at),
     }
     for name, types in arguments.items():
-        call = getattr(calls, f"pcm_module_{name}")
+        call = getattr(calls, f"pcm_module_{name}", None)
+        if call is None:
+            raise OSError(f"{path} isn't {_NAME}: it has no pcm_module_{name}")
         call.argtypes, call.restype = types, ctypes.c_uint32
     calls.pcm_module_tick.argtypes, calls.pcm_module_tick.restype = (at,), ctypes.c_uint64
     calls.pcm_module_close.argtypes, calls.pcm_module_close.restype = (at,), None
@@ -88,8 +91,7 @@ def _options(given: Dict[str, object]) -> _Options:
     """Options for the library. `UsageError` where a word is wrong, `Unlinked` where the library doesn't do what is asked for."""
     table = COMMANDS["stream"].options
     values = {name: str(value) for name, value in given.items() if value is not None}
-    words = [word for name, value in values.items() for word in ("--" + name.replace("_", "-"), value)]
-    if wrong := wrong_word(["stream", *words]):
+    if wrong := wrong_word(["stream", *words_of(given)]):
         raise UsageError(2, "usage: pcm stream [options]", wrong)
     for name, value in values.items():
         if name not in _NUMBERS and name != "seed" and value not in _ANYWAY.get(name, ()):

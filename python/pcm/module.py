@@ -18,9 +18,9 @@ class Module:
     """A phase-change memory module: behind a pipe, or in this process.
 
     `way` says which: `"program"`, or `"library"`, libpcm.so.1, with the same answers; else the environment's PCM_WAY does. Where neither does it is
-    the library, where it is built, installed or in the wheel and can do what is asked for, and no program is named. The library makes no copies and
-    tells no wear, its options are those of a module (and `end="drain"`, `tell`), it knows from the start which lines there are, and no call of it
-    waits, so `progress` tells nothing.
+    the library, where it is built, installed, in the wheel or named by PCM_LIBRARY and can do what is asked for, and no program is named. The library
+    makes no copies and tells no wear, its options are those of a module (and `end="drain"`, `tell`), it knows from the start which lines there are,
+    and no call of it waits, so `progress` tells nothing.
 
     Rows are numbered from 1 in the order in which they are handed in; each call answers its row's number. Outcomes come from `settle`,
     `settle_until`, `finish` and `outcomes`, each once, in the order in which they become known. Rows may be handed in at any rate and

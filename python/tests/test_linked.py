@@ -6,7 +6,9 @@ import pathlib
 import random
 import subprocess
 import sys
+import tempfile
 import unittest
+import zipfile
 from unittest import mock
 
 PACKAGE = pathlib.Path(__file__).resolve().parent.parent
@@ -180,8 +182,9 @@ class Ways(unittest.TestCase):
 
     def test_ways_that_are_none(self):
         self.assertRaisesRegex(ValueError, "library or program, not 'pipe'", pcm.Module, way="pipe")
-        with mock.patch.dict(os.environ, PCM_LIBRARY="/nowhere/libpcm.so.1"):
-            self.assertRaises(OSError, pcm.Module, way="library")
+        for path in ("/nowhere/libpcm.so.1", "libc.so.6"):
+            with mock.patch.dict(os.environ, PCM_LIBRARY=path):
+                self.assertRaises(OSError, pcm.Module, way="library")
 
     def way(self, environment, **options):
         """The way that a module takes where these variables stand alone."""
@@ -213,6 +216,20 @@ class Ways(unittest.TestCase):
         with pcm.Module(way="library", **SMALL) as one, pcm.Module(way="library", **SMALL) as other:
             told = [[answer(module, *drawn_call(draw, module, 4, 64)) for draw, module in zip(draws, (one, other))] for _ in range(200)]
         self.assertEqual(alone, [list(it) for it in zip(*told)])
+
+    @unittest.skipUnless((PACKAGE.parent / "crates" / "pcm_c" / "out" / "libpcm.so.1").is_file(), "the library isn't built in this checkout")
+    def test_a_wheel_carries_it(self):
+        with tempfile.TemporaryDirectory() as folder:
+            code = f"import sys; sys.path.insert(0, {str(PACKAGE)!r}); import wheel_of; print(wheel_of.build_wheel({folder!r}))"
+            name = subprocess.run([sys.executable, "-c", code], stdout=subprocess.PIPE, text=True, check=True).stdout.strip()
+            self.assertNotIn("-any.whl", name)
+            with zipfile.ZipFile(pathlib.Path(folder) / name) as wheel:
+                wheel.extractall(folder)
+                self.assertIn("Root-Is-Purelib: false", wheel.read(f"pcm-{pcm.__version__}.dist-info/WHEEL").decode())
+            around = {name: value for name, value in os.environ.items() if not name.startswith("PCM")}
+            code = "import pcm; print(pcm.Module()._way.settle(1, 'S', 7, 0), pcm.linked.library())"
+            said = subprocess.run([sys.executable, "-c", code], cwd=folder, stdout=subprocess.PIPE, text=True, check=True, env=around).stdout
+            self.assertEqual(f"7 {folder}/pcm/libpcm.so.1\n", said)
 
     def test_what_is_dropped_is_freed(self):
         # (a module of 1,024 lines, with what it reserves for outcomes, has some hundreds of KB)
