@@ -120,6 +120,7 @@ class Linked:
         self._at, self._to = ctypes.addressof(handle), ctypes.addressof(self._kept[1])
         if status := self._calls.pcm_module_open(self._at, ctypes.addressof(asked)):
             raise OutOfMemory(7, "out of memory") if status == _NO_MEMORY else PcmError(None, f"pcm_module_open answers {status}")
+        self._write, self._read = self._calls.pcm_module_write, self._calls.pcm_module_read
         self._freed = weakref.finalize(self, _freed, self._calls, handle)
         self._known: Deque[Outcome] = collections.deque()
         self._falls_short = self._is_finished = False
@@ -128,13 +129,13 @@ class Linked:
 
     def hand(self, number: int, op: str, tick: int, line: int, data: Given) -> None:
         """Hands a row in, which has this number."""
-        if isinstance(data, str):
+        if op == "W":
+            status = self._write(self._at, tick, line, data, len(data))
+        elif op == "R":
+            status = self._read(self._at, tick, line)
+        elif isinstance(data, str):
             given, whole = bytes(it != "." for it in data[::2]), bytes.fromhex(data.replace("..", "00"))
             status = self._calls.pcm_module_write_masked(self._at, tick, line, whole, len(whole), given, len(given))
-        elif op == "W":
-            status = self._calls.pcm_module_write(self._at, tick, line, data, len(data))
-        elif op == "R":
-            status = self._calls.pcm_module_read(self._at, tick, line)
         else:
             status = self._calls.pcm_module_cut(self._at, tick)
         if status != _OK:
