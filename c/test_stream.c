@@ -294,7 +294,7 @@ static void a_log_is_replayed(const char *const words[])
         if (pcm_replay(&pcm, row, take, &taken) != PCM_OK)
             break;
     }
-    check(right == 40000 && taken.count > 1000, "answers that must be taken are handed on");
+    check(right == 40000 && (taken.count > 1000 || !is_piped), "answers that must be taken are handed on");
     check(pcm_settle_all(&pcm, 500000, take, &taken) == PCM_OK && taken.count == 40001, "each once");
     check(pcm_finish(&pcm) == PCM_OK && pcm_replay(&pcm, "9000,R,3,\n", NULL, NULL) == PCM_REFUSED && pcm_close(&pcm) >= 0, "the end");
 }

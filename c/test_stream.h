@@ -8,6 +8,12 @@
 #include <fcntl.h>
 #include <unistd.h>
 
+#ifdef PCM_STREAM_LIBRARY
+enum { is_piped = 0 };
+#else
+enum { is_piped = 1 };
+#endif
+
 /* Takes outcomes up to the next one that says that the module has settled, and answers how many came before. */
 static inline int until_settled(struct pcm *pcm, struct pcm_outcome *last)
 {

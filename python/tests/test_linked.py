@@ -35,9 +35,9 @@ def drawn_options(draw):
     return options
 
 
-def drawn_call(draw, module, lines, size):
-    """A call of a module by its name and its arguments."""
-    tick, line, kind = module.tick + draw.randrange(60), draw.randrange(lines), draw.random()
+def drawn_call(draw, module, lines, size, step=60):
+    """A call of a module by its name and its arguments, less than so many ticks later."""
+    tick, line, kind = module.tick + draw.randrange(step), draw.randrange(lines), draw.random()
     if kind < 0.35:
         return "write", tick, line, draw.randbytes(size)
     if kind < 0.5:
@@ -82,9 +82,9 @@ class Ways(unittest.TestCase):
             draw = random.Random(seed)
             options = drawn_options(draw)
             modules = self.both(**options)
-            lines = options["banks"] * options["regions"] * options["lines"]
+            lines, step = options["banks"] * options["regions"] * options["lines"], draw.choice((2, 20, 200))
             for _ in range(draw.choice((5, 50, 400))):
-                told = self.same(modules, *drawn_call(draw, modules[1], lines, options["line"]))
+                told = self.same(modules, *drawn_call(draw, modules[1], lines, options["line"], step))
                 if isinstance(told, list):
                     kinds.update(it.word for it in told if isinstance(it, pcm.Outcome))
             kinds.update(it.word for it in self.same(modules, "finish"))
@@ -100,7 +100,7 @@ class Ways(unittest.TestCase):
         self.same(modules, "read", 5, 0)
         ones, some = ONES, [1] + [None] * 63
         calls = (
-            ("read", 4, 0), ("read", 2**40 + 1, 0), ("read", 5.0, 0), ("read", "5", 0), ("read", True, 0), ("read", 5, 4), ("read", 5, -1), ("read", 5, 1.0),
+            ("read", 4, 0), ("read", 2**40 + 1, 0), ("read", 5.0, 0), ("read", "five", 0), ("read", True, 0), ("read", 5, 4), ("read", 5, -1), ("read", 5, 1.0),
             ("write", 5, 0, b""), ("write", 5, 0, ones + b"x"), ("write", 5, 0, "ff" * 64), ("write", 5, 4, ones), ("write", 5, 0, list(ones)),
             ("write_masked", 5, 0, [None] * 64), ("write_masked", 5, 0, some[:-1]), ("write_masked", 5, 0, [256] + some[1:]), ("write_masked", 4, 0, some),
             ("cut", 4), ("settle", 4), ("settle", None), ("banks", 4), ("settle_until", 0, 9), ("settle_until", 2, 9), ("settle_until", 1, 4), ("bank_of", 4),
@@ -169,7 +169,7 @@ class Ways(unittest.TestCase):
             self.assertEqual(2, here.exception.status)
 
     def test_what_the_library_has_not_is_told(self):
-        for options in ({"end": "off"}, {"until": "refused"}, {"input": "drawn"}, {"every": 5}):
+        for options in ({"end": "off"}, {"until": "refused"}, {"input": "drawn"}, {"rows": 5}):
             with self.assertRaisesRegex(ValueError, 'the library has no .*: way="program" has'):
                 pcm.Module(way="library", **options)
         with self.assertRaisesRegex(ValueError, "the library makes no copies"):
@@ -203,7 +203,7 @@ class Ways(unittest.TestCase):
         self.assertEqual("library", self.way({"PCM_WAY": "program"}, way="library"))
 
     def test_the_program_does_what_the_library_does_not(self):
-        for options in ({"end": "off"}, {"input": "drawn", "rows": 5}, {"every": 5}, {"copies": True}):
+        for options in ({"end": "off"}, {"input": "drawn", "rows": 5}, {"rows": 5}, {"copies": True}):
             self.assertEqual("program", self.way({"PCM_LIBRARY": library()}, **options))
         self.assertEqual("program", self.way({"PCM_LIBRARY": "/nowhere/libpcm.so.1"}))
 
