@@ -69,21 +69,12 @@ def library() -> Optional[str]:
 
 @functools.lru_cache(maxsize=None)
 def _loaded(path: str) -> ctypes.CDLL:
-    """The library, its calls with the types of their arguments. `OSError` where it can't be loaded."""
+    """The library. Its calls are given C's values, bytes and numbers below 2**31 as they are: types of their own that ctypes looks at would take longer
+    than the module. `OSError` where it can't be loaded."""
     calls = ctypes.CDLL(path)
-    at, tick, line, size = ctypes.c_void_p, ctypes.c_uint64, ctypes.c_uint32, ctypes.c_size_t
-    arguments = {
-        "open": (at, at), "write": (at, tick, line, ctypes.c_char_p, size), "read": (at, tick, line), "cut": (at, tick),
-        "write_masked": (at, tick, line, ctypes.c_char_p, size, ctypes.c_char_p, size), "settle": (at, tick), "settle_until": (at, line, tick),
-        "finish": (at,), "next": (at, at), "bank": (at, line, at),
-    }
-    for name, types in arguments.items():
-        call = getattr(calls, f"pcm_module_{name}", None)
-        if call is None:
-            raise OSError(f"{path} isn't {_NAME}: it has no pcm_module_{name}")
-        call.argtypes, call.restype = types, ctypes.c_uint32
-    calls.pcm_module_tick.argtypes, calls.pcm_module_tick.restype = (at,), ctypes.c_uint64
-    calls.pcm_module_close.argtypes, calls.pcm_module_close.restype = (at,), None
+    if not hasattr(calls, "pcm_module_next"):
+        raise OSError(f"{path} isn't {_NAME}")
+    calls.pcm_module_tick.restype = ctypes.c_uint64
     return calls
 
 
@@ -115,13 +106,12 @@ class Linked:
             raise FileNotFoundError(f"no {_NAME}: tools/build library makes it; PCM_LIBRARY names one")
         asked = _options(options)
         self._calls, handle, self._row = _loaded(path), _Handle(), bytearray(_HEAD.size + _MOST)
-        # (what lies at these two is kept as long as this module)
-        self._kept = handle, (ctypes.c_char * len(self._row)).from_buffer(self._row)
-        self._at, self._to = ctypes.addressof(handle), ctypes.addressof(self._kept[1])
-        if status := self._calls.pcm_module_open(self._at, ctypes.addressof(asked)):
+        self._at, self._to = ctypes.byref(handle), ctypes.byref((ctypes.c_char * len(self._row)).from_buffer(self._row))
+        if status := self._calls.pcm_module_open(self._at, ctypes.byref(asked)):
             raise OutOfMemory(7, "out of memory") if status == _NO_MEMORY else PcmError(None, f"pcm_module_open answers {status}")
+        self._freed = weakref.finalize(self, self._calls.pcm_module_close, self._at)
         self._write, self._read = self._calls.pcm_module_write, self._calls.pcm_module_read
-        self._freed = weakref.finalize(self, _freed, self._calls, handle)
+        self._tick, self._size = ctypes.c_uint64(), ctypes.c_size_t()
         self._known: Deque[Outcome] = collections.deque()
         self._falls_short = self._is_finished = False
         self.status: Optional[int] = None
@@ -129,26 +119,30 @@ class Linked:
 
     def hand(self, number: int, op: str, tick: int, line: int, data: Given) -> None:
         """Hands a row in, which has this number."""
+        self._tick.value = tick
         if op == "W":
-            status = self._write(self._at, tick, line, data, len(data))
+            self._size.value = len(data)
+            status = self._write(self._at, self._tick, line, data, self._size)
         elif op == "R":
-            status = self._read(self._at, tick, line)
+            status = self._read(self._at, self._tick, line)
         elif isinstance(data, str):
             given, whole = bytes(it != "." for it in data[::2]), bytes.fromhex(data.replace("..", "00"))
-            status = self._calls.pcm_module_write_masked(self._at, tick, line, whole, len(whole), given, len(given))
+            size = ctypes.c_size_t(len(whole))
+            status = self._calls.pcm_module_write_masked(self._at, self._tick, line, whole, size, given, size)
         else:
-            status = self._calls.pcm_module_cut(self._at, tick)
+            status = self._calls.pcm_module_cut(self._at, self._tick)
         if status != _OK:
             raise self._fault(status)
 
     def settle(self, number: int, op: str, tick: int, row: int) -> int:
         """The module settles; answers the tick that was reached."""
+        self._tick.value = tick
         if op == "U":
-            status = self._calls.pcm_module_settle_until(self._at, row, tick)
+            status = self._calls.pcm_module_settle_until(self._at, ctypes.c_uint32(row), self._tick)
         elif op == "L":
             raise ValueError("the library doesn't tell how worn a module is: way=\"program\" does")
         else:
-            status = self._calls.pcm_module_settle(self._at, tick)
+            status = self._calls.pcm_module_settle(self._at, self._tick)
         if status != _OK:
             raise self._fault(status)
         return tick if op != "U" else int(self._calls.pcm_module_tick(self._at))
@@ -160,7 +154,7 @@ class Linked:
         """What waits in each bank."""
         tick, waits, told = int(self._calls.pcm_module_tick(self._at)), _Waits(), []
         for bank in range(self.shape.banks):
-            self._calls.pcm_module_bank(self._at, bank, ctypes.addressof(waits))
+            self._calls.pcm_module_bank(self._at, bank, ctypes.byref(waits))
             told.append(Backlog(tick, bank, waits.writes, waits.reads, MARKS[waits.mark]))
         return told
 
@@ -236,8 +230,3 @@ class Linked:
 _NEW = object.__new__
 _PLACED = frozenset(kind for kind, it in enumerate(KINDS) if it in (Stored, Read))
 _SHORT = frozenset(kind for kind, it in enumerate(KINDS) if it.falls_short)
-
-
-def _freed(calls: ctypes.CDLL, handle: _Handle) -> None:
-    """Closes a module that nobody has any more, or that was closed."""
-    calls.pcm_module_close(ctypes.addressof(handle))
