@@ -25,8 +25,8 @@ _NUMBERS = (
 )
 # What the library does anyway.
 _ANYWAY = {"input": ("source",), "print": ("rows",), "tell": ("nothing", "shape"), "end": ("drain",), "until": ("end",)}
-_HEAD = struct.Struct("=IIQII")
-_MOST = 128
+# The bytes of a struct pcm_module_outcome.
+_OUTCOME = 152
 
 
 class Unlinked(ValueError):
@@ -105,8 +105,10 @@ class Linked:
         if path is None:
             raise FileNotFoundError(f"no {_NAME}: tools/build library makes it; PCM_LIBRARY names one")
         asked = _options(options)
-        self._calls, handle, self._row = _loaded(path), _Handle(), bytearray(_HEAD.size + _MOST)
-        self._at, self._to = ctypes.byref(handle), ctypes.byref((ctypes.c_char * len(self._row)).from_buffer(self._row))
+        self._calls, handle, self._row = _loaded(path), _Handle(), bytearray(_OUTCOME)
+        self._at, self._to = ctypes.byref(handle), ctypes.byref((ctypes.c_char * _OUTCOME).from_buffer(self._row))
+        # (kind, row, tick, place, how many bytes, and these)
+        self._unpack = struct.Struct(f"=IIQII{asked.line}s").unpack_from
         if status := self._calls.pcm_module_open(self._at, ctypes.byref(asked)):
             raise OutOfMemory(7, "out of memory") if status == _NO_MEMORY else PcmError(None, f"pcm_module_open answers {status}")
         self._freed = weakref.finalize(self, self._calls.pcm_module_close, self._at)
@@ -202,9 +204,9 @@ class Linked:
 
     def _drain(self) -> None:
         """Takes all outcomes that wait."""
-        following, at, to, row, unpack, put = self._calls.pcm_module_next, self._at, self._to, self._row, _HEAD.unpack_from, self._known.append
+        following, at, to, row, unpack, put = self._calls.pcm_module_next, self._at, self._to, self._row, self._unpack, self._known.append
         while following(at, to) == _OK:
-            kind, number, tick, place, size = unpack(row)
+            kind, number, tick, place, size, data = unpack(row)
             told = _NEW(KINDS[kind])
             fields = told.__dict__
             fields["row"] = number
@@ -212,7 +214,7 @@ class Linked:
             if kind in _PLACED:
                 fields["place"] = place
             if size:
-                fields["data"] = bytes(row[_HEAD.size:_HEAD.size + size])
+                fields["data"] = data
             elif kind in _SHORT:
                 self._falls_short = True
             put(told)

@@ -245,10 +245,10 @@ class Module:
             tick, line = int(tick), int(line)
         if self._log is not None:
             self._log.write(text_of(op, tick, line, data))
-        self._way.hand(self._rows + 1, op, tick, line, data)
-        self._rows += 1
-        self.tick = tick
-        return self._rows
+        number = self._rows + 1
+        self._way.hand(number, op, tick, line, data)
+        self._rows, self.tick = number, tick
+        return number
 
     def _look_at(self, op: str, tick: int, number: int, data: Given) -> None:
         """Refuses a row that can't be one. (A number of another type may be right: its text tells.)"""
