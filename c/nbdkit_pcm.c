@@ -11,8 +11,10 @@
 #define NBDKIT_API_VERSION 2
 #include "nbdkit_cuts.h"
 
+#include <fcntl.h>
 #include <sys/stat.h>
 #include <time.h>
+#include <unistd.h>
 
 #define THREAD_MODEL NBDKIT_THREAD_MODEL_SERIALIZE_ALL_REQUESTS
 #define CONTROL_SIZE 4096

@@ -8,13 +8,16 @@
        pcm_close(&copy);
 
    A copy is a fork of the program where it waits for rows, so it takes as long for a module of a million rows as for a new one. The program
-   is as it was proved: pcm_copy.so (`make -C c copies`) stands in the place of its read of standard input alone, preloaded. */
+   is as it was proved: pcm_copy.so (`make -C c copies`) stands in the place of its read of standard input alone, preloaded. Over the library
+   (PCM_STREAM_LIBRARY) there is no program to fork: both calls answer PCM_FAILED, with ENOTSUP. */
 #ifndef PCM_COPY_H
 #define PCM_COPY_H
 
 #include "pcm_stream.h"
 
+#ifndef PCM_STREAM_LIBRARY
 #include <sys/uio.h>
+#endif
 
 #ifdef __cplusplus
 extern "C" {
@@ -30,6 +33,24 @@ static inline enum pcm_result pcm_open_copied(struct pcm *pcm, const char *const
    closed. */
 static inline enum pcm_result pcm_copy(struct pcm *from, struct pcm *to, pcm_taker take, void *context);
 
+#ifdef PCM_STREAM_LIBRARY
+static inline enum pcm_result pcm_open_copied(struct pcm *pcm, const char *const words[], const char *library)
+{
+    (void)words;
+    (void)library;
+    memset(pcm, 0, sizeof *pcm);
+    errno = ENOTSUP;
+    return PCM_FAILED;
+}
+
+static inline enum pcm_result pcm_copy(struct pcm *from, struct pcm *to, pcm_taker take, void *context)
+{
+    memset(to, 0, sizeof *to);
+    enum pcm_result result = pcm_settle_all(from, from->tick, take, context);
+    errno = ENOTSUP;
+    return result == PCM_OK ? PCM_FAILED : result;
+}
+#else
 /* From here on: how. Messages go over a socket that keeps them apart. To the program: `f`, with the descriptors of a copy: its standard input,
    its standard output, its own such socket, and perhaps its standard error; and `q`: it ends at once. From it: `h` once it can be copied; of a
    copy its process and the number of an error; as it ends `e` and its status, or `q` where it was broken off. */
@@ -180,6 +201,7 @@ static inline enum pcm_result pcm_copy(struct pcm *from, struct pcm *to, pcm_tak
     to->context = NULL;
     return PCM_OK;
 }
+#endif /* PCM_STREAM_LIBRARY */
 
 #ifdef __cplusplus
 }

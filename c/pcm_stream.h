@@ -1,4 +1,4 @@
-/* pcm_stream.h: a proved phase-change memory module behind a pipe, for simulators in C and C++.
+/* pcm_stream.h: a proved phase-change memory module behind a pipe, or in one's own process, for simulators in C and C++.
 
    One header, POSIX; it compiles as C11 and as C++17, with -pedantic-errors and without a macro of the caller's. It starts `pcm stream`, sends
    rows of a trace, and takes outcomes as they become known. Nothing is allocated, no thread is started, no signal is handled or raised; each
@@ -20,6 +20,13 @@
    Ticks are the simulation's own unit of time, from 0 to 2^40, and never fall. A line is a line of the module, from 0. What an option, a row
    or an outcome means is told by the repository's docs (USING.md, FORMATS.md).
 
+   With PCM_STREAM_LIBRARY defined before it is included, and pcm.h and pcm_stream_library.h beside it, the module is in the caller's own process, by
+   the library (pcm.h): no program is started, and the words in front of the first option are passed over. Functions and answers are the same, but:
+   a row is served as it is handed in, so what is wrong with it shows at once; options are those of a module, and of others only their defaults
+   (`--end drain`, `--until end`, `--input source`) and `--tell shape`: any other shows as one that the program refuses; pcm_look answers PCM_FAILED,
+   with ENOTSUP, and so do copies (pcm_copy.h); pcm_next, which would wait for ever where no outcome is to come, answers PCM_REFUSED; PCM_FULL comes
+   where PCM_MOST_SETTLES settles wait to be taken, and never else; memory is allocated; and nothing is left to send where pcm_close comes.
+
    A struct pcm is the caller's: it holds two descriptors, a process, and two buffers (some 80 KiB together), and must not be moved while it is
    open. One that is all zero, as a static one is, counts as closed. It isn't to be used by two threads at once.
 
@@ -31,19 +38,23 @@
 #define PCM_STREAM_H
 
 #include <errno.h>
-#include <fcntl.h>
-#include <poll.h>
-#include <signal.h>
-#include <spawn.h>
 #include <stddef.h>
 #include <stdint.h>
 #include <stdio.h>
 #include <stdlib.h>
 #include <string.h>
-#include <sys/socket.h>
 #include <sys/types.h>
+#ifdef PCM_STREAM_LIBRARY
+#include "pcm.h"
+#else
+#include <fcntl.h>
+#include <poll.h>
+#include <signal.h>
+#include <spawn.h>
+#include <sys/socket.h>
 #include <sys/wait.h>
 #include <unistd.h>
+#endif
 #ifdef __SSE2__
 #include <emmintrin.h> /* sixteen digits at once */
 #endif
@@ -60,6 +71,8 @@ extern "C" {
 #define PCM_MOST_WAITING 64512
 /* So many bytes pcm_close takes at most without pcm_finish: more than the answers of all that may wait then, in 64 banks and in the pipes. */
 #define PCM_MOST_LEFT (1 << 26)
+/* Over the library: so many settles may wait to be taken before PCM_FULL comes. */
+#define PCM_MOST_SETTLES 64
 /* The last tick, and the last row's number. */
 #define PCM_LAST_TICK (UINT64_C(1) << 40)
 #define PCM_LAST_ROW UINT32_C(4294967294)
@@ -167,9 +180,21 @@ struct pcm {
     void *context;
     int control;           /* of pcm_copy.h: by what copies are asked for; 0: there are none */
     int is_heard;          /* of pcm_copy.h: whether the program has said that it can be copied */
+#ifdef PCM_STREAM_LIBRARY
+    struct pcm_module module;
+    struct pcm_shape told;  /* what pcm_learn tells */
+    int ends_with;          /* not 0: the status with which the program would have ended here; no more rows are taken */
+    int falls_short;        /* whether an outcome that was taken is full, worn, busy, lost or queued */
+    uint64_t taken;         /* how many outcomes were */
+    uint32_t first;         /* of `marks`: the first one that waits; there are `settles` of them */
+    struct {
+        uint64_t behind, tick; /* behind so many outcomes stands that the module has settled to this tick */
+    } marks[PCM_MOST_SETTLES];
+#else
     size_t held, begin, end;
     char out[16384];       /* rows that are still to be handed to the program */
     char in[PCM_MOST_WAITING + 2 * PCM_MOST_ROW]; /* answers that were taken from it */
+#endif
 };
 
 /* Starts the program: words[0] is its path or a name on the search path, and the last of them is NULL; they are only lent. What it says of
@@ -240,6 +265,244 @@ static inline enum pcm_result pcm_finish(struct pcm *pcm);
 static inline int pcm_close(struct pcm *pcm);
 
 /* From here on: how. */
+
+#ifdef PCM_STREAM_LIBRARY
+#define PCM__CLEARED sizeof(struct pcm)
+#else
+#define PCM__CLEARED offsetof(struct pcm, out) /* (a buffer needn't be) */
+#endif
+
+/* The value that the words of the program give an option (`--line`, in one word or in two), or else this one. */
+static inline const char *pcm__value(const char *const words[], const char *option, const char *otherwise)
+{
+    size_t size = strlen(option);
+    for (int i = 1; words[0] != NULL && words[i] != NULL; i++)
+        if (strncmp(words[i], option, size) == 0 && (words[i][size] == '=' || words[i][size] == 0)) {
+            const char *given = words[i][size] == '=' ? words[i] + size + 1 : words[i + 1];
+            return given != NULL ? given : otherwise;
+        }
+    return otherwise;
+}
+
+/* Puts the digits of a number, and answers where they end. */
+static inline char *pcm__put_number(char *at, uint64_t number)
+{
+    char digits[20];
+    int count = 0;
+    do
+        digits[count++] = (char)('0' + number % 10);
+    while ((number /= 10) != 0);
+    while (count > 0)
+        *at++ = digits[--count];
+    return at;
+}
+
+#ifdef __SSE2__
+/* The digits of sixteen values below 16. */
+static inline __m128i pcm__digits(__m128i values)
+{
+    __m128i are_letters = _mm_cmpgt_epi8(values, _mm_set1_epi8(9));
+    return _mm_add_epi8(_mm_add_epi8(values, _mm_set1_epi8('0')), _mm_and_si128(are_letters, _mm_set1_epi8('a' - '0' - 10)));
+}
+
+/* The values of sixteen digits; `are_digits` loses the lanes in which none is. */
+static inline __m128i pcm__values(const char *at, __m128i *are_digits)
+{
+    __m128i digits = _mm_loadu_si128((const __m128i *)at), are_letters = _mm_cmpgt_epi8(digits, _mm_set1_epi8('9'));
+    __m128i values = _mm_sub_epi8(_mm_sub_epi8(digits, _mm_set1_epi8('0')), _mm_and_si128(are_letters, _mm_set1_epi8('a' - '0' - 10)));
+    __m128i are_small = _mm_cmpeq_epi8(_mm_min_epu8(values, _mm_set1_epi8(15)), values);
+    __m128i are_right = _mm_cmpeq_epi8(_mm_cmpgt_epi8(values, _mm_set1_epi8(9)), are_letters);
+    *are_digits = _mm_and_si128(*are_digits, _mm_and_si128(are_small, are_right));
+    return values;
+}
+
+/* The sixteen bytes of 32 digits. */
+static inline __m128i pcm__sixteen(const char *at, __m128i *are_digits)
+{
+    const __m128i low = _mm_set1_epi16(255), one = pcm__values(at, are_digits), two = pcm__values(at + 16, are_digits);
+    return _mm_packus_epi16(_mm_and_si128(_mm_or_si128(_mm_slli_epi16(one, 4), _mm_srli_epi16(one, 8)), low),
+                            _mm_and_si128(_mm_or_si128(_mm_slli_epi16(two, 4), _mm_srli_epi16(two, 8)), low));
+}
+#endif
+
+/* Puts the digits of bytes, and answers where they end; two dots for one that isn't given. */
+static inline char *pcm__put_bytes(char *at, const uint8_t *bytes, const uint8_t *given, size_t size)
+{
+    size_t i = 0;
+#ifdef __SSE2__
+    for (; given == NULL && i + 16 <= size; i += 16, at += 32) {
+        const __m128i low = _mm_set1_epi8(15), it = _mm_loadu_si128((const __m128i *)(bytes + i));
+        const __m128i highs = _mm_and_si128(_mm_srli_epi16(it, 4), low), lows = _mm_and_si128(it, low);
+        _mm_storeu_si128((__m128i *)at, pcm__digits(_mm_unpacklo_epi8(highs, lows)));
+        _mm_storeu_si128((__m128i *)(at + 16), pcm__digits(_mm_unpackhi_epi8(highs, lows)));
+    }
+#endif
+    for (; i < size; i++, at += 2) {
+        int is_given = given == NULL || given[i] != 0;
+        at[0] = is_given ? "0123456789abcdef"[bytes[i] >> 4] : '.';
+        at[1] = is_given ? "0123456789abcdef"[bytes[i] & 15] : '.';
+    }
+    return at;
+}
+
+/* The value of a digit; -1 where it is none. */
+static inline int pcm__digit(char c)
+{
+    return c >= '0' && c <= '9' ? c - '0' : c >= 'a' && c <= 'f' ? c - 'a' + 10 : -1;
+}
+
+/* The binary logarithm of a power of two. */
+static inline uint32_t pcm__bits(uint32_t power)
+{
+    uint32_t bits = 0;
+    while (bits < 31 && power >> bits > 1)
+        bits++;
+    return bits;
+}
+
+/* The randomiser of a module of so many banks, each of so many lines, by its seed. */
+static inline struct pcm_randomiser pcm__randomiser(uint32_t banks, uint32_t lines, uint64_t seed)
+{
+    struct pcm_randomiser it;
+    for (uint64_t i = 0; i < 3; i++) {
+        uint64_t word = seed + (i + 1) * UINT64_C(0x9e3779b97f4a7c15);
+        word = (word ^ word >> 30) * UINT64_C(0xbf58476d1ce4e5b9);
+        word = (word ^ word >> 27) * UINT64_C(0x94d049bb133111eb);
+        it.key[i] = (uint32_t)(word ^ word >> 31) & 0xffff;
+    }
+    it.bank_bits = pcm__bits(lines);
+    it.low_bits = (pcm__bits(banks) + it.bank_bits) / 2;
+    it.high_bits = pcm__bits(banks) + it.bank_bits - it.low_bits;
+    return it;
+}
+
+/* A round: what a half of so many bits is xored with, by the other half and a key. (Halves have at most 13 bits, keys 16.) */
+static inline uint32_t pcm__round(uint32_t half, uint32_t key, uint32_t bits)
+{
+    return (half ^ key) * (half ^ key) & ((UINT32_C(1) << bits) - 1);
+}
+
+/* The three rounds by the keys in their order (`first` is 0), which give where a line goes, counted through the banks, the regions of each and the
+   lines of each of these; or from the last one (`first` is 2), which give the line that goes there. */
+static inline uint32_t pcm__spread(const struct pcm_randomiser *it, uint32_t number, uint32_t first)
+{
+    uint32_t left = number >> it->low_bits, right = number ^ left << it->low_bits;
+    left ^= pcm__round(right, it->key[first], it->high_bits);
+    right ^= pcm__round(left, it->key[1], it->low_bits);
+    left ^= pcm__round(right, it->key[2 - first], it->high_bits);
+    return left << it->low_bits | right;
+}
+
+/* The bank of a line that the module has. */
+static inline uint32_t pcm__bank_of(const struct pcm_randomiser *it, uint32_t line)
+{
+    return pcm__spread(it, line, 0) >> it->bank_bits;
+}
+
+static inline uint32_t pcm_bank_of(const struct pcm *pcm, uint32_t line)
+{
+    const struct pcm_shape *shape = &pcm->shape;
+    int is_here = shape->version != 0 && line < shape->banks * shape->regions * shape->lines;
+    return is_here ? pcm__bank_of(&pcm->randomiser, line) : PCM_NO_BANK;
+}
+
+/* Whether a row of this operation may name this number: a row that came before, a line, or nothing. */
+static inline int pcm__is_known(const struct pcm *pcm, char op, uint32_t number)
+{
+    const struct pcm_shape *shape = &pcm->shape;
+    if (op == 'U')
+        return number > 0 && number <= pcm->rows;
+    return shape->version == 0 || number < (uint64_t)shape->banks * shape->regions * shape->lines;
+}
+
+/* A row that is handed in. */
+struct pcm__row {
+    uint64_t tick;
+    char op;                     /* R, W, M or C, or S, Q, U or L of one that settles */
+    uint32_t number;             /* its line, or the row of a settle until; where it has none, 0 */
+    const uint8_t *bytes, *given; /* of a write: its bytes, and of a masked one which of them it gives */
+    size_t size;                 /* how many these are */
+    const char *digits;          /* NULL, or what stands for them in its text, two for each byte */
+};
+
+static inline int pcm__settles(char op)
+{
+    return op == 'S' || op == 'Q' || op == 'U' || op == 'L';
+}
+
+/* Whether a row may come now. */
+static inline int pcm__may_come(const struct pcm *pcm, const struct pcm__row *row)
+{
+    return pcm->to > 0 && row->tick >= pcm->tick && row->tick <= PCM_LAST_TICK && (pcm__settles(row->op) || pcm->rows < PCM_LAST_ROW)
+           && pcm__is_known(pcm, row->op, row->number);
+}
+
+/* Puts the text of a row with its end, at most PCM_MOST_ROW bytes, and answers where it ends. */
+static inline char *pcm__put_row(char *at, const struct pcm__row *row)
+{
+    at = pcm__put_number(at, row->tick);
+    *at++ = ',';
+    *at++ = row->op;
+    *at++ = ',';
+    if (row->op == 'U' || (row->op != 'C' && !pcm__settles(row->op)))
+        at = pcm__put_number(at, row->number);
+    *at++ = ',';
+    if (row->digits == NULL)
+        at = pcm__put_bytes(at, row->bytes, row->given, row->size);
+    else
+        at = (char *)memcpy(at, row->digits, 2 * row->size) + 2 * row->size;
+    *at++ = '\n';
+    return at;
+}
+
+/* A row is one of those that were handed in, and is logged by its text, of so many bytes. */
+static inline void pcm__count(struct pcm *pcm, const struct pcm__row *row, const char *text, size_t size)
+{
+    if (row->op != 'U')
+        pcm->tick = row->tick;
+    if (pcm__settles(row->op))
+        pcm->settles++;
+    else
+        pcm->rows++;
+    if (pcm->log != NULL)
+        pcm->log(pcm->context, row->op, text, size);
+}
+
+/* What is known of a module by the words of pcm_open. PCM_REFUSED where they print anything but outcomes. */
+static inline enum pcm_result pcm__begin(struct pcm *pcm, const char *const words[])
+{
+    memset(pcm, 0, PCM__CLEARED);
+    pcm->to = pcm->from = -1;
+    pcm->process = -1;
+    pcm->line_size = strcmp(pcm__value(words, "--line", "64"), "128") == 0 ? 128 : 64; /* (all other values are refused) */
+    pcm->tells_shape = strcmp(pcm__value(words, "--tell", "nothing"), "shape") == 0;
+    pcm->seed = strtoull(pcm__value(words, "--seed", "0"), NULL, 10);
+    if (strcmp(pcm__value(words, "--print", "rows"), "rows") == 0)
+        return PCM_OK;
+    errno = EINVAL;
+    return PCM_REFUSED;
+}
+
+/* The module's shape is known. */
+static inline void pcm__know(struct pcm *pcm, const struct pcm_shape *shape)
+{
+    pcm->shape = *shape;
+    pcm->line_size = shape->line;
+    pcm->randomiser = pcm__randomiser(shape->banks, shape->regions * shape->lines, pcm->seed);
+}
+
+/* What a row that settles asks for besides, and where that is put. */
+struct pcm__asks {
+    char op;                /* S, Q, U or L */
+    uint32_t row;           /* of U; else 0 */
+    struct pcm_bank *banks; /* of Q: the first `count` */
+    size_t count;
+    struct pcm_wear *wear;  /* of L */
+};
+
+#ifdef PCM_STREAM_LIBRARY
+#include "pcm_stream_library.h"
+#else
 
 extern char **environ;
 
@@ -322,18 +585,6 @@ static inline int pcm__start(struct pcm *pcm, const char *const words[], const s
     return fault;
 }
 
-/* The value that the words of the program give an option (`--line`, in one word or in two), or else this one. */
-static inline const char *pcm__value(const char *const words[], const char *option, const char *otherwise)
-{
-    size_t size = strlen(option);
-    for (int i = 1; words[0] != NULL && words[i] != NULL; i++)
-        if (strncmp(words[i], option, size) == 0 && (words[i][size] == '=' || words[i][size] == 0)) {
-            const char *given = words[i][size] == '=' ? words[i] + size + 1 : words[i + 1];
-            return given != NULL ? given : otherwise;
-        }
-    return otherwise;
-}
-
 /* Closes the caller's ends of the streams; errno stays. */
 static inline void pcm__shut(struct pcm *pcm)
 {
@@ -349,16 +600,8 @@ static inline void pcm__shut(struct pcm *pcm)
 static inline enum pcm_result pcm__open(struct pcm *pcm, const char *const words[], const struct pcm__how *how)
 {
     int to[2], from[2];
-    memset(pcm, 0, offsetof(struct pcm, out));
-    pcm->to = pcm->from = -1;
-    pcm->process = -1;
-    pcm->line_size = strcmp(pcm__value(words, "--line", "64"), "128") == 0 ? 128 : 64; /* (the program refuses all other values) */
-    pcm->tells_shape = strcmp(pcm__value(words, "--tell", "nothing"), "shape") == 0;
-    pcm->seed = strtoull(pcm__value(words, "--seed", "0"), NULL, 10);
-    if (strcmp(pcm__value(words, "--print", "rows"), "rows") != 0) {
-        errno = EINVAL;
+    if (pcm__begin(pcm, words) != PCM_OK)
         return PCM_REFUSED;
-    }
     if (pcm__pair(to, 0) != 0)
         return PCM_FAILED;
     if (pcm__pair(from, 1) != 0) {
@@ -444,124 +687,263 @@ static inline enum pcm_result pcm_flush(struct pcm *pcm)
     return result;
 }
 
-/* Puts the digits of a number, and answers where they end. */
-static inline char *pcm__put_number(char *at, uint64_t number)
+/* Sends a row. */
+static inline enum pcm_result pcm__put(struct pcm *pcm, const struct pcm__row *row)
 {
-    char digits[20];
-    int count = 0;
-    do
-        digits[count++] = (char)('0' + number % 10);
-    while ((number /= 10) != 0);
-    while (count > 0)
-        *at++ = digits[--count];
-    return at;
-}
-
-#ifdef __SSE2__
-/* The digits of sixteen values below 16. */
-static inline __m128i pcm__digits(__m128i values)
-{
-    __m128i are_letters = _mm_cmpgt_epi8(values, _mm_set1_epi8(9));
-    return _mm_add_epi8(_mm_add_epi8(values, _mm_set1_epi8('0')), _mm_and_si128(are_letters, _mm_set1_epi8('a' - '0' - 10)));
-}
-
-/* The values of sixteen digits; `are_digits` loses the lanes in which none is. */
-static inline __m128i pcm__values(const char *at, __m128i *are_digits)
-{
-    __m128i digits = _mm_loadu_si128((const __m128i *)at), are_letters = _mm_cmpgt_epi8(digits, _mm_set1_epi8('9'));
-    __m128i values = _mm_sub_epi8(_mm_sub_epi8(digits, _mm_set1_epi8('0')), _mm_and_si128(are_letters, _mm_set1_epi8('a' - '0' - 10)));
-    __m128i are_small = _mm_cmpeq_epi8(_mm_min_epu8(values, _mm_set1_epi8(15)), values);
-    __m128i are_right = _mm_cmpeq_epi8(_mm_cmpgt_epi8(values, _mm_set1_epi8(9)), are_letters);
-    *are_digits = _mm_and_si128(*are_digits, _mm_and_si128(are_small, are_right));
-    return values;
-}
-
-/* The sixteen bytes of 32 digits. */
-static inline __m128i pcm__sixteen(const char *at, __m128i *are_digits)
-{
-    const __m128i low = _mm_set1_epi16(255), one = pcm__values(at, are_digits), two = pcm__values(at + 16, are_digits);
-    return _mm_packus_epi16(_mm_and_si128(_mm_or_si128(_mm_slli_epi16(one, 4), _mm_srli_epi16(one, 8)), low),
-                            _mm_and_si128(_mm_or_si128(_mm_slli_epi16(two, 4), _mm_srli_epi16(two, 8)), low));
-}
-#endif
-
-/* Puts the digits of bytes, and answers where they end; two dots for one that isn't given. */
-static inline char *pcm__put_bytes(char *at, const uint8_t *bytes, const uint8_t *given, size_t size)
-{
-    size_t i = 0;
-#ifdef __SSE2__
-    for (; given == NULL && i + 16 <= size; i += 16, at += 32) {
-        const __m128i low = _mm_set1_epi8(15), it = _mm_loadu_si128((const __m128i *)(bytes + i));
-        const __m128i highs = _mm_and_si128(_mm_srli_epi16(it, 4), low), lows = _mm_and_si128(it, low);
-        _mm_storeu_si128((__m128i *)at, pcm__digits(_mm_unpacklo_epi8(highs, lows)));
-        _mm_storeu_si128((__m128i *)(at + 16), pcm__digits(_mm_unpackhi_epi8(highs, lows)));
-    }
-#endif
-    for (; i < size; i++, at += 2) {
-        int is_given = given == NULL || given[i] != 0;
-        at[0] = is_given ? "0123456789abcdef"[bytes[i] >> 4] : '.';
-        at[1] = is_given ? "0123456789abcdef"[bytes[i] & 15] : '.';
-    }
-    return at;
-}
-
-/* Whether a row of this operation may name this number: a row that came before, a line, or nothing. */
-static inline int pcm__is_known(const struct pcm *pcm, char op, uint32_t number)
-{
-    const struct pcm_shape *shape = &pcm->shape;
-    if (op == 'U')
-        return number > 0 && number <= pcm->rows;
-    return shape->version == 0 || number < (uint64_t)shape->banks * shape->regions * shape->lines;
-}
-
-/* Begins a row that may come now, where there is room for its text: its tick, its operation and its number (0 where it has none). `at` is where its
-   bytes go. */
-static inline enum pcm_result pcm__begin_row(struct pcm *pcm, uint64_t tick, char op, uint32_t number, char **at)
-{
-    int settles = strchr("SQUL", op) != NULL, is_bare = op != 'U' && (settles || op == 'C');
-    if (pcm->to <= 0 || tick < pcm->tick || tick > PCM_LAST_TICK || (!settles && pcm->rows >= PCM_LAST_ROW) || !pcm__is_known(pcm, op, number))
+    if (!pcm__may_come(pcm, row))
         return PCM_REFUSED;
     if (sizeof pcm->out - pcm->held < PCM_MOST_ROW) {
         enum pcm_result result = pcm_flush(pcm);
         if (result != PCM_OK)
             return result;
     }
-    *at = pcm__put_number(pcm->out + pcm->held, tick);
-    *(*at)++ = ',';
-    *(*at)++ = op;
-    *(*at)++ = ',';
-    if (!is_bare)
-        *at = pcm__put_number(*at, number);
-    *(*at)++ = ',';
+    char *text = pcm->out + pcm->held;
+    size_t size = (size_t)(pcm__put_row(text, row) - text);
+    pcm->held += size;
+    pcm__count(pcm, row, text, size);
     return PCM_OK;
 }
 
-/* Ends the row, whose bytes end there: it is one of those that are sent, and is logged. */
-static inline void pcm__end_row(struct pcm *pcm, uint64_t tick, char op, char *at)
+/* The next line of the stream, whose end is set to 0; NULL where `result` says why there is none. */
+static inline const char *pcm__line(struct pcm *pcm, enum pcm_result *result)
 {
-    const char *row = pcm->out + pcm->held;
-    *at++ = '\n';
-    pcm->held += (size_t)(at - row);
-    if (op != 'U')
-        pcm->tick = tick;
-    if (strchr("SQUL", op) != NULL)
-        pcm->settles++;
-    else
-        pcm->rows++;
-    if (pcm->log != NULL)
-        pcm->log(pcm->context, op, row, (size_t)(at - row));
+    for (size_t looked = 0;;) {
+        char *begin = pcm->in + pcm->begin;
+        char *end = (char *)memchr(begin + looked, '\n', pcm->end - pcm->begin - looked);
+        if (end != NULL) {
+            *end = 0;
+            pcm->begin = (size_t)(end + 1 - pcm->in);
+            return begin;
+        }
+        looked = pcm->end - pcm->begin;
+        if (looked >= PCM_MOST_ROW) {
+            *result = PCM_GARBLED;
+            return NULL;
+        }
+        *result = pcm__take(pcm);
+        if (*result != PCM_OK)
+            return NULL;
+    }
 }
 
-/* Sends a row. `number` is its line, or the row of a settle until; where it has none, it is 0. */
-static inline enum pcm_result pcm__row(struct pcm *pcm, uint64_t tick, char op, uint32_t number, const uint8_t *bytes, const uint8_t *given,
-                                       size_t size)
+/* Reads the digits of bytes, up to the end of a line; how many bytes, or -1 where one is none or there are too many. */
+static inline int pcm__get_bytes(const char *at, uint8_t *bytes)
 {
-    char *at;
-    enum pcm_result result = pcm__begin_row(pcm, tick, op, number, &at);
+    size_t digits = strlen(at), i = 0;
+    if (digits % 2 != 0 || digits > 2 * PCM_MOST_BYTES)
+        return -1;
+#ifdef __SSE2__
+    __m128i are_digits = _mm_set1_epi8(-1);
+    for (; i + 32 <= digits; i += 32)
+        _mm_storeu_si128((__m128i *)(bytes + i / 2), pcm__sixteen(at + i, &are_digits));
+    if (_mm_movemask_epi8(are_digits) != 0xffff)
+        return -1;
+#endif
+    for (; i < digits; i += 2) {
+        int high = pcm__digit(at[i]), low = pcm__digit(at[i + 1]);
+        if (high < 0 || low < 0)
+            return -1;
+        bytes[i / 2] = (uint8_t)(16 * high + low);
+    }
+    return (int)(digits / 2);
+}
+
+/* Reads the digits of a field, which may be empty, and what ends it (a comma, or a space within a field); NULL where it is none. */
+static inline const char *pcm__number(const char *at, char end, uint64_t *number)
+{
+    for (*number = 0; *at >= '0' && *at <= '9'; at++)
+        *number = 10 * *number + (uint64_t)(*at - '0');
+    return *at == end ? at + 1 : NULL;
+}
+
+/* Reads so many numbers with a blank between any two, up to the end of a line. */
+static inline enum pcm_result pcm__numbers(const char *at, uint64_t *numbers, int count)
+{
+    for (int i = 0; i < count; i++)
+        if (*at < '0' || *at > '9' || (at = pcm__number(at, i + 1 < count ? ' ' : 0, &numbers[i])) == NULL)
+            return PCM_GARBLED;
+    return PCM_OK;
+}
+
+/* Reads how worn the module is, behind the word of its line, and puts it where it is wanted. */
+static inline enum pcm_result pcm__wear(const char *at, struct pcm_wear *wear)
+{
+    uint64_t tick, place, it[7];
+    if ((at = pcm__number(at, ',', &tick)) == NULL || (at = pcm__number(at, ',', &place)) == NULL || pcm__numbers(at, it, 7) != PCM_OK)
+        return PCM_GARBLED;
+    if (wear != NULL) {
+        const struct pcm_wear found = {it[0], it[1], it[2], it[3], it[4], it[5], it[6]};
+        *wear = found;
+    }
+    return PCM_OK;
+}
+
+/* Reads what the module is, behind the word of its line. */
+static inline enum pcm_result pcm__shape(struct pcm *pcm, const char *at)
+{
+    uint64_t tick, version, it[7];
+    if ((at = pcm__number(at, ',', &tick)) == NULL || (at = pcm__number(at, ',', &version)) == NULL || pcm__numbers(at, it, 7) != PCM_OK
+        || version == 0 || it[4] == 0 || it[4] > PCM_MOST_BYTES)
+        return PCM_GARBLED;
+    const struct pcm_shape found = {(uint32_t)version, (uint32_t)it[0], (uint32_t)it[1], (uint32_t)it[2],
+                                    (uint32_t)it[3],   (uint32_t)it[4], (uint32_t)it[5], (uint32_t)it[6]};
+    pcm__know(pcm, &found);
+    return PCM_OK;
+}
+
+/* Reads what waits in a bank, behind the word of its line, and puts it where it is wanted. */
+static inline enum pcm_result pcm__bank(const char *at, struct pcm_bank *banks, size_t count)
+{
+    static const char *const words[] = {"going", "exhausted", "halted"};
+    uint64_t tick, bank, writes, reads;
+    int mark = 0;
+    if ((at = pcm__number(at, ',', &tick)) == NULL || (at = pcm__number(at, ',', &bank)) == NULL || (at = pcm__number(at, ' ', &writes)) == NULL
+        || (at = pcm__number(at, ' ', &reads)) == NULL)
+        return PCM_GARBLED;
+    while (mark <= PCM_HALTED && strcmp(at, words[mark]) != 0)
+        mark++;
+    if (mark > PCM_HALTED)
+        return PCM_GARBLED;
+    if (bank < count) {
+        banks[bank].waiting_writes = (uint32_t)writes;
+        banks[bank].waiting_reads = (uint32_t)reads;
+        banks[bank].mark = (enum pcm_mark)mark;
+    }
+    return PCM_OK;
+}
+
+/* Reads a line of the stream. */
+static inline enum pcm_result pcm__outcome(const char *at, struct pcm_outcome *outcome)
+{
+    static const char *const words[] = {"stored,", "merged,", "queued,", "full,", "worn,", "read,", "forwarded,", "busy,", "lost,", "cut,", "settled,"};
+    uint64_t row, place;
+    int kind = 0;
+    if ((at = pcm__number(at, ',', &row)) == NULL)
+        return PCM_GARBLED;
+    while (kind <= PCM_SETTLED && (*at != *words[kind] || strncmp(at, words[kind], strlen(words[kind])) != 0))
+        kind++;
+    if (kind > PCM_SETTLED || (at = pcm__number(at + strlen(words[kind]), ',', &outcome->tick)) == NULL
+        || (at = pcm__number(at, ',', &place)) == NULL)
+        return PCM_GARBLED;
+    outcome->kind = (enum pcm_kind)kind;
+    outcome->row = (uint32_t)row;
+    outcome->place = (uint32_t)place;
+    int size = pcm__get_bytes(at, outcome->bytes);
+    outcome->size = size < 0 ? 0 : (uint32_t)size;
+    return size < 0 ? PCM_GARBLED : PCM_OK;
+}
+
+/* Reads a line of the stream that isn't an outcome: whether it is one. What it tells is put where it is asked for. */
+static inline int pcm__is_aside(struct pcm *pcm, const char *line, const struct pcm__asks *asks, enum pcm_result *result)
+{
+    *result = PCM_OK;
+    if (*line >= '0' && *line <= '9')
+        return 0;
+    if (strncmp(line, ",bank,", 6) == 0)
+        *result = pcm__bank(line + 6, asks == NULL ? NULL : asks->banks, asks == NULL ? 0 : asks->count);
+    else if (strncmp(line, ",wear,", 6) == 0)
+        *result = pcm__wear(line + 6, asks == NULL ? NULL : asks->wear);
+    else if (strncmp(line, ",shape,", 7) == 0)
+        *result = pcm__shape(pcm, line + 7);
+    else
+        return strncmp(line, "row,", 4) == 0;
+    return 1;
+}
+
+/* The next outcome; what comes before it and was asked for is put where that is wanted. */
+static inline enum pcm_result pcm__next(struct pcm *pcm, struct pcm_outcome *outcome, const struct pcm__asks *asks)
+{
+    enum pcm_result result = pcm_flush(pcm);
+    const char *line;
+    if (result == PCM_FAILED || result == PCM_REFUSED)
+        return result;
+    do {
+        if ((line = pcm__line(pcm, &result)) == NULL)
+            return result;
+    } while (pcm__is_aside(pcm, line, asks, &result) && result == PCM_OK);
     if (result == PCM_OK)
-        pcm__end_row(pcm, tick, op, pcm__put_bytes(at, bytes, given, size));
+        result = pcm__outcome(line, outcome);
+    if (result == PCM_OK && outcome->kind == PCM_SETTLED && pcm->settles > 0)
+        pcm->settles--;
     return result;
 }
+
+/* Waits for the shape. */
+static inline enum pcm_result pcm__await_shape(struct pcm *pcm)
+{
+    enum pcm_result result = pcm_flush(pcm);
+    if (result == PCM_FAILED)
+        return result;
+    while (pcm->shape.version == 0) {
+        const char *line = pcm__line(pcm, &result);
+        if (line == NULL)
+            return result;
+        if (!pcm__is_aside(pcm, line, NULL, &result) || result != PCM_OK)
+            return PCM_GARBLED;
+    }
+    return PCM_OK;
+}
+
+static inline enum pcm_result pcm_finish(struct pcm *pcm)
+{
+    enum pcm_result result = pcm_flush(pcm);
+    if (result != PCM_OK && result != PCM_ENDED)
+        return result;
+    if (pcm->to > 0)
+        close(pcm->to);
+    pcm->to = -1;
+    pcm->held = 0;
+    return PCM_OK;
+}
+
+/* Closes what copies are asked by, once the program has ended: the status that it told of itself, -1 where it told none, and -2 where it was
+   broken off. */
+static inline int pcm__part(struct pcm *pcm)
+{
+    unsigned char told[16];
+    int status = -1;
+    ssize_t got;
+    /* (a reset is told before what came before it, where the program didn't take what it was asked) */
+    while (pcm->control > 0 && ((got = recv(pcm->control, told, sizeof told, 0)) > 0 || (got < 0 && (errno == EINTR || errno == ECONNRESET))))
+        status = got == 2 && told[0] == 'e' ? told[1] : got == 1 && told[0] == 'q' ? -2 : status;
+    if (pcm->control > 0)
+        close(pcm->control);
+    pcm->control = pcm->is_heard = 0;
+    return status;
+}
+
+/* Takes what the program still says, and drops it, up to so many bytes: so it goes on to its end. */
+static inline void pcm__drop(struct pcm *pcm, size_t most)
+{
+    ssize_t got = 1;
+    for (size_t all = 0; all < most && (got > 0 || (got < 0 && errno == EINTR)); all += got > 0 ? (size_t)got : 0)
+        got = read(pcm->from, pcm->in, sizeof pcm->in);
+}
+
+static inline int pcm_close(struct pcm *pcm)
+{
+    int status = 0, is_finished = pcm->to <= 0;
+    /* (a module that can be copied ends as it is asked to; another goes on to its end, as long as somebody takes what it says) */
+    int is_asked = !is_finished && pcm->control > 0 && send(pcm->control, "q", 1, MSG_NOSIGNAL) == 1;
+    if (!is_finished)
+        close(pcm->to);
+    pcm->to = -1;
+    if (pcm->from > 0 && !is_asked)
+        pcm__drop(pcm, is_finished ? SIZE_MAX : PCM_MOST_LEFT);
+    pcm__shut(pcm);
+    int told = pcm__part(pcm);
+    pid_t ended = -1;
+    while (pcm->process > 0 && (ended = waitpid(pcm->process, &status, 0)) < 0 && errno == EINTR)
+        ;
+    if (pcm->process <= 0 || told == -2)
+        status = told < 0 ? -1 : told;
+    else
+        status = ended > 0 && WIFEXITED(status) ? WEXITSTATUS(status) : -1;
+    pcm->process = -1;
+    return status;
+}
+
+#endif /* PCM_STREAM_LIBRARY */
 
 /* Whether a line may have so many bytes. */
 static inline int pcm__is_line(const struct pcm *pcm, size_t size)
@@ -571,43 +953,39 @@ static inline int pcm__is_line(const struct pcm *pcm, size_t size)
 
 static inline enum pcm_result pcm_write(struct pcm *pcm, uint64_t tick, uint32_t line, const uint8_t *bytes, size_t size)
 {
-    return pcm__is_line(pcm, size) ? pcm__row(pcm, tick, 'W', line, bytes, NULL, size) : PCM_SIZE;
+    const struct pcm__row row = {tick, 'W', line, bytes, NULL, size, NULL};
+    return pcm__is_line(pcm, size) ? pcm__put(pcm, &row) : PCM_SIZE;
 }
 
 static inline enum pcm_result pcm_write_masked(struct pcm *pcm, uint64_t tick, uint32_t line, const uint8_t *bytes, const uint8_t *given,
                                                size_t size)
 {
+    const struct pcm__row row = {tick, 'M', line, bytes, given, size, NULL};
     size_t first = 0;
     if (!pcm__is_line(pcm, size))
         return PCM_SIZE;
     while (first < size && given[first] == 0)
         first++;
-    return first < size ? pcm__row(pcm, tick, 'M', line, bytes, given, size) : PCM_REFUSED;
+    return first < size ? pcm__put(pcm, &row) : PCM_REFUSED;
 }
 
 static inline enum pcm_result pcm_read(struct pcm *pcm, uint64_t tick, uint32_t line)
 {
-    return pcm__row(pcm, tick, 'R', line, NULL, NULL, 0);
+    const struct pcm__row row = {tick, 'R', line, NULL, NULL, 0, NULL};
+    return pcm__put(pcm, &row);
 }
 
 static inline enum pcm_result pcm_cut(struct pcm *pcm, uint64_t tick)
 {
-    return pcm__row(pcm, tick, 'C', 0, NULL, NULL, 0);
+    const struct pcm__row row = {tick, 'C', 0, NULL, NULL, 0, NULL};
+    return pcm__put(pcm, &row);
 }
-
-/* What a row that settles asks for besides, and where that is put. */
-struct pcm__asks {
-    char op;                /* S, Q, U or L */
-    uint32_t row;           /* of U; else 0 */
-    struct pcm_bank *banks; /* of Q: the first `count` */
-    size_t count;
-    struct pcm_wear *wear;  /* of L */
-};
 
 /* Settles. */
 static inline enum pcm_result pcm__settle(struct pcm *pcm, uint64_t tick, const struct pcm__asks *asks)
 {
-    enum pcm_result result = pcm__row(pcm, tick, asks->op, asks->row, NULL, NULL, 0);
+    const struct pcm__row row = {tick, asks->op, asks->row, NULL, NULL, 0, NULL};
+    enum pcm_result result = pcm__put(pcm, &row);
     if (result != PCM_OK)
         return result;
     /* (the row is taken now: what the stream doesn't hold yet pcm_next hands over) */
@@ -621,7 +999,10 @@ static inline enum pcm_result pcm_settle(struct pcm *pcm, uint64_t tick)
     return pcm__settle(pcm, tick, &asks);
 }
 
-static inline enum pcm_result pcm__next(struct pcm *pcm, struct pcm_outcome *outcome, const struct pcm__asks *asks);
+static inline enum pcm_result pcm_next(struct pcm *pcm, struct pcm_outcome *outcome)
+{
+    return pcm__next(pcm, outcome, NULL);
+}
 
 /* The next outcome is handed to `take`. */
 static inline enum pcm_result pcm__hand(struct pcm *pcm, pcm_taker take, void *context)
@@ -721,238 +1102,6 @@ static inline enum pcm_result pcm_write_sure(struct pcm *pcm, uint64_t tick, uin
     return (result == PCM_OK || result == PCM_ENDED) && watch.is_declined ? PCM_DECLINED : result;
 }
 
-/* The next line of the stream, whose end is set to 0; NULL where `result` says why there is none. */
-static inline const char *pcm__line(struct pcm *pcm, enum pcm_result *result)
-{
-    for (size_t looked = 0;;) {
-        char *begin = pcm->in + pcm->begin;
-        char *end = (char *)memchr(begin + looked, '\n', pcm->end - pcm->begin - looked);
-        if (end != NULL) {
-            *end = 0;
-            pcm->begin = (size_t)(end + 1 - pcm->in);
-            return begin;
-        }
-        looked = pcm->end - pcm->begin;
-        if (looked >= PCM_MOST_ROW) {
-            *result = PCM_GARBLED;
-            return NULL;
-        }
-        *result = pcm__take(pcm);
-        if (*result != PCM_OK)
-            return NULL;
-    }
-}
-
-/* The value of a digit; -1 where it is none. */
-static inline int pcm__digit(char c)
-{
-    return c >= '0' && c <= '9' ? c - '0' : c >= 'a' && c <= 'f' ? c - 'a' + 10 : -1;
-}
-
-/* Reads the digits of bytes, up to the end of a line; how many bytes, or -1 where one is none or there are too many. */
-static inline int pcm__get_bytes(const char *at, uint8_t *bytes)
-{
-    size_t digits = strlen(at), i = 0;
-    if (digits % 2 != 0 || digits > 2 * PCM_MOST_BYTES)
-        return -1;
-#ifdef __SSE2__
-    __m128i are_digits = _mm_set1_epi8(-1);
-    for (; i + 32 <= digits; i += 32)
-        _mm_storeu_si128((__m128i *)(bytes + i / 2), pcm__sixteen(at + i, &are_digits));
-    if (_mm_movemask_epi8(are_digits) != 0xffff)
-        return -1;
-#endif
-    for (; i < digits; i += 2) {
-        int high = pcm__digit(at[i]), low = pcm__digit(at[i + 1]);
-        if (high < 0 || low < 0)
-            return -1;
-        bytes[i / 2] = (uint8_t)(16 * high + low);
-    }
-    return (int)(digits / 2);
-}
-
-/* Reads the digits of a field, which may be empty, and what ends it (a comma, or a space within a field); NULL where it is none. */
-static inline const char *pcm__number(const char *at, char end, uint64_t *number)
-{
-    for (*number = 0; *at >= '0' && *at <= '9'; at++)
-        *number = 10 * *number + (uint64_t)(*at - '0');
-    return *at == end ? at + 1 : NULL;
-}
-
-/* Reads so many numbers with a blank between any two, up to the end of a line. */
-static inline enum pcm_result pcm__numbers(const char *at, uint64_t *numbers, int count)
-{
-    for (int i = 0; i < count; i++)
-        if (*at < '0' || *at > '9' || (at = pcm__number(at, i + 1 < count ? ' ' : 0, &numbers[i])) == NULL)
-            return PCM_GARBLED;
-    return PCM_OK;
-}
-
-/* Reads how worn the module is, behind the word of its line, and puts it where it is wanted. */
-static inline enum pcm_result pcm__wear(const char *at, struct pcm_wear *wear)
-{
-    uint64_t tick, place, it[7];
-    if ((at = pcm__number(at, ',', &tick)) == NULL || (at = pcm__number(at, ',', &place)) == NULL || pcm__numbers(at, it, 7) != PCM_OK)
-        return PCM_GARBLED;
-    if (wear != NULL) {
-        const struct pcm_wear found = {it[0], it[1], it[2], it[3], it[4], it[5], it[6]};
-        *wear = found;
-    }
-    return PCM_OK;
-}
-
-/* The binary logarithm of a power of two. */
-static inline uint32_t pcm__bits(uint32_t power)
-{
-    uint32_t bits = 0;
-    while (bits < 31 && power >> bits > 1)
-        bits++;
-    return bits;
-}
-
-/* The randomiser of a module of so many banks, each of so many lines, by its seed. */
-static inline struct pcm_randomiser pcm__randomiser(uint32_t banks, uint32_t lines, uint64_t seed)
-{
-    struct pcm_randomiser it;
-    for (uint64_t i = 0; i < 3; i++) {
-        uint64_t word = seed + (i + 1) * UINT64_C(0x9e3779b97f4a7c15);
-        word = (word ^ word >> 30) * UINT64_C(0xbf58476d1ce4e5b9);
-        word = (word ^ word >> 27) * UINT64_C(0x94d049bb133111eb);
-        it.key[i] = (uint32_t)(word ^ word >> 31) & 0xffff;
-    }
-    it.bank_bits = pcm__bits(lines);
-    it.low_bits = (pcm__bits(banks) + it.bank_bits) / 2;
-    it.high_bits = pcm__bits(banks) + it.bank_bits - it.low_bits;
-    return it;
-}
-
-/* A round: what a half of so many bits is xored with, by the other half and a key. (Halves have at most 13 bits, keys 16.) */
-static inline uint32_t pcm__round(uint32_t half, uint32_t key, uint32_t bits)
-{
-    return (half ^ key) * (half ^ key) & ((UINT32_C(1) << bits) - 1);
-}
-
-/* The three rounds by the keys in their order (`first` is 0), which give where a line goes, counted through the banks, the regions of each and the
-   lines of each of these; or from the last one (`first` is 2), which give the line that goes there. */
-static inline uint32_t pcm__spread(const struct pcm_randomiser *it, uint32_t number, uint32_t first)
-{
-    uint32_t left = number >> it->low_bits, right = number ^ left << it->low_bits;
-    left ^= pcm__round(right, it->key[first], it->high_bits);
-    right ^= pcm__round(left, it->key[1], it->low_bits);
-    left ^= pcm__round(right, it->key[2 - first], it->high_bits);
-    return left << it->low_bits | right;
-}
-
-/* The bank of a line that the module has. */
-static inline uint32_t pcm__bank_of(const struct pcm_randomiser *it, uint32_t line)
-{
-    return pcm__spread(it, line, 0) >> it->bank_bits;
-}
-
-static inline uint32_t pcm_bank_of(const struct pcm *pcm, uint32_t line)
-{
-    const struct pcm_shape *shape = &pcm->shape;
-    int is_here = shape->version != 0 && line < shape->banks * shape->regions * shape->lines;
-    return is_here ? pcm__bank_of(&pcm->randomiser, line) : PCM_NO_BANK;
-}
-
-/* Reads what the module is, behind the word of its line. */
-static inline enum pcm_result pcm__shape(struct pcm *pcm, const char *at)
-{
-    uint64_t tick, version, it[7];
-    if ((at = pcm__number(at, ',', &tick)) == NULL || (at = pcm__number(at, ',', &version)) == NULL || pcm__numbers(at, it, 7) != PCM_OK
-        || version == 0 || it[4] == 0 || it[4] > PCM_MOST_BYTES)
-        return PCM_GARBLED;
-    const struct pcm_shape found = {(uint32_t)version, (uint32_t)it[0], (uint32_t)it[1], (uint32_t)it[2],
-                                    (uint32_t)it[3],   (uint32_t)it[4], (uint32_t)it[5], (uint32_t)it[6]};
-    pcm->shape = found;
-    pcm->line_size = found.line;
-    pcm->randomiser = pcm__randomiser(found.banks, found.regions * found.lines, pcm->seed);
-    return PCM_OK;
-}
-
-/* Reads what waits in a bank, behind the word of its line, and puts it where it is wanted. */
-static inline enum pcm_result pcm__bank(const char *at, struct pcm_bank *banks, size_t count)
-{
-    static const char *const words[] = {"going", "exhausted", "halted"};
-    uint64_t tick, bank, writes, reads;
-    int mark = 0;
-    if ((at = pcm__number(at, ',', &tick)) == NULL || (at = pcm__number(at, ',', &bank)) == NULL || (at = pcm__number(at, ' ', &writes)) == NULL
-        || (at = pcm__number(at, ' ', &reads)) == NULL)
-        return PCM_GARBLED;
-    while (mark <= PCM_HALTED && strcmp(at, words[mark]) != 0)
-        mark++;
-    if (mark > PCM_HALTED)
-        return PCM_GARBLED;
-    if (bank < count) {
-        banks[bank].waiting_writes = (uint32_t)writes;
-        banks[bank].waiting_reads = (uint32_t)reads;
-        banks[bank].mark = (enum pcm_mark)mark;
-    }
-    return PCM_OK;
-}
-
-/* Reads a line of the stream. */
-static inline enum pcm_result pcm__outcome(const char *at, struct pcm_outcome *outcome)
-{
-    static const char *const words[] = {"stored,", "merged,", "queued,", "full,", "worn,", "read,", "forwarded,", "busy,", "lost,", "cut,", "settled,"};
-    uint64_t row, place;
-    int kind = 0;
-    if ((at = pcm__number(at, ',', &row)) == NULL)
-        return PCM_GARBLED;
-    while (kind <= PCM_SETTLED && (*at != *words[kind] || strncmp(at, words[kind], strlen(words[kind])) != 0))
-        kind++;
-    if (kind > PCM_SETTLED || (at = pcm__number(at + strlen(words[kind]), ',', &outcome->tick)) == NULL
-        || (at = pcm__number(at, ',', &place)) == NULL)
-        return PCM_GARBLED;
-    outcome->kind = (enum pcm_kind)kind;
-    outcome->row = (uint32_t)row;
-    outcome->place = (uint32_t)place;
-    int size = pcm__get_bytes(at, outcome->bytes);
-    outcome->size = size < 0 ? 0 : (uint32_t)size;
-    return size < 0 ? PCM_GARBLED : PCM_OK;
-}
-
-/* Reads a line of the stream that isn't an outcome: whether it is one. What it tells is put where it is asked for. */
-static inline int pcm__is_aside(struct pcm *pcm, const char *line, const struct pcm__asks *asks, enum pcm_result *result)
-{
-    *result = PCM_OK;
-    if (*line >= '0' && *line <= '9')
-        return 0;
-    if (strncmp(line, ",bank,", 6) == 0)
-        *result = pcm__bank(line + 6, asks == NULL ? NULL : asks->banks, asks == NULL ? 0 : asks->count);
-    else if (strncmp(line, ",wear,", 6) == 0)
-        *result = pcm__wear(line + 6, asks == NULL ? NULL : asks->wear);
-    else if (strncmp(line, ",shape,", 7) == 0)
-        *result = pcm__shape(pcm, line + 7);
-    else
-        return strncmp(line, "row,", 4) == 0;
-    return 1;
-}
-
-/* The next outcome; what comes before it and was asked for is put where that is wanted. */
-static inline enum pcm_result pcm__next(struct pcm *pcm, struct pcm_outcome *outcome, const struct pcm__asks *asks)
-{
-    enum pcm_result result = pcm_flush(pcm);
-    const char *line;
-    if (result == PCM_FAILED || result == PCM_REFUSED)
-        return result;
-    do {
-        if ((line = pcm__line(pcm, &result)) == NULL)
-            return result;
-    } while (pcm__is_aside(pcm, line, asks, &result) && result == PCM_OK);
-    if (result == PCM_OK)
-        result = pcm__outcome(line, outcome);
-    if (result == PCM_OK && outcome->kind == PCM_SETTLED && pcm->settles > 0)
-        pcm->settles--;
-    return result;
-}
-
-static inline enum pcm_result pcm_next(struct pcm *pcm, struct pcm_outcome *outcome)
-{
-    return pcm__next(pcm, outcome, NULL);
-}
-
 /* A row of a trace by its text. */
 struct pcm__traced {
     uint64_t tick, line; /* the line is 0 of a cut */
@@ -1023,18 +1172,13 @@ static inline int pcm__get_row(const char *row, struct pcm__traced *it)
 /* Sends a row of a trace, its bytes as their digits stand. */
 static inline enum pcm_result pcm__send(struct pcm *pcm, const struct pcm__traced *it)
 {
+    const struct pcm__row row = {it->tick, it->op, (uint32_t)it->line, it->bytes, it->op == 'M' ? it->given : NULL, it->size, it->digits}; /* (at most eight digits) */
     int is_write = it->op == 'W' || it->op == 'M';
-    char *at;
     if (is_write && !pcm__is_line(pcm, it->size))
         return PCM_SIZE;
     if (is_write && memchr(it->given, 1, it->size) == NULL)
         return PCM_REFUSED;
-    enum pcm_result result = pcm__begin_row(pcm, it->tick, it->op, (uint32_t)it->line, &at); /* (at most eight digits) */
-    if (result != PCM_OK)
-        return result;
-    memcpy(at, it->digits, 2 * it->size);
-    pcm__end_row(pcm, it->tick, it->op, at + 2 * it->size);
-    return PCM_OK;
+    return pcm__put(pcm, &row);
 }
 
 static inline enum pcm_result pcm_replay(struct pcm *pcm, const char *row, pcm_taker take, void *context)
@@ -1067,77 +1211,11 @@ static inline int pcm__is_wanted(const struct pcm_shape *told, const struct pcm_
 static inline enum pcm_result pcm_learn(struct pcm *pcm, const struct pcm_shape *wanted)
 {
     enum pcm_result result = PCM_OK;
-    if (pcm->shape.version == 0 && (pcm->from <= 0 || !pcm->tells_shape))
-        return PCM_REFUSED;
-    if (pcm->shape.version == 0 && (result = pcm_flush(pcm)) == PCM_FAILED)
+    if (pcm->shape.version == 0)
+        result = pcm->from <= 0 || !pcm->tells_shape ? PCM_REFUSED : pcm__await_shape(pcm);
+    if (result != PCM_OK)
         return result;
-    while (pcm->shape.version == 0) {
-        const char *line = pcm__line(pcm, &result);
-        if (line == NULL)
-            return result;
-        if (!pcm__is_aside(pcm, line, NULL, &result) || result != PCM_OK)
-            return PCM_GARBLED;
-    }
     return wanted == NULL || pcm__is_wanted(&pcm->shape, wanted) ? PCM_OK : PCM_OTHER;
-}
-
-static inline enum pcm_result pcm_finish(struct pcm *pcm)
-{
-    enum pcm_result result = pcm_flush(pcm);
-    if (result != PCM_OK && result != PCM_ENDED)
-        return result;
-    if (pcm->to > 0)
-        close(pcm->to);
-    pcm->to = -1;
-    pcm->held = 0;
-    return PCM_OK;
-}
-
-/* Closes what copies are asked by, once the program has ended: the status that it told of itself, -1 where it told none, and -2 where it was
-   broken off. */
-static inline int pcm__part(struct pcm *pcm)
-{
-    unsigned char told[16];
-    int status = -1;
-    ssize_t got;
-    /* (a reset is told before what came before it, where the program didn't take what it was asked) */
-    while (pcm->control > 0 && ((got = recv(pcm->control, told, sizeof told, 0)) > 0 || (got < 0 && (errno == EINTR || errno == ECONNRESET))))
-        status = got == 2 && told[0] == 'e' ? told[1] : got == 1 && told[0] == 'q' ? -2 : status;
-    if (pcm->control > 0)
-        close(pcm->control);
-    pcm->control = pcm->is_heard = 0;
-    return status;
-}
-
-/* Takes what the program still says, and drops it, up to so many bytes: so it goes on to its end. */
-static inline void pcm__drop(struct pcm *pcm, size_t most)
-{
-    ssize_t got = 1;
-    for (size_t all = 0; all < most && (got > 0 || (got < 0 && errno == EINTR)); all += got > 0 ? (size_t)got : 0)
-        got = read(pcm->from, pcm->in, sizeof pcm->in);
-}
-
-static inline int pcm_close(struct pcm *pcm)
-{
-    int status = 0, is_finished = pcm->to <= 0;
-    /* (a module that can be copied ends as it is asked to; another goes on to its end, as long as somebody takes what it says) */
-    int is_asked = !is_finished && pcm->control > 0 && send(pcm->control, "q", 1, MSG_NOSIGNAL) == 1;
-    if (!is_finished)
-        close(pcm->to);
-    pcm->to = -1;
-    if (pcm->from > 0 && !is_asked)
-        pcm__drop(pcm, is_finished ? SIZE_MAX : PCM_MOST_LEFT);
-    pcm__shut(pcm);
-    int told = pcm__part(pcm);
-    pid_t ended = -1;
-    while (pcm->process > 0 && (ended = waitpid(pcm->process, &status, 0)) < 0 && errno == EINTR)
-        ;
-    if (pcm->process <= 0 || told == -2)
-        status = told < 0 ? -1 : told;
-    else
-        status = ended > 0 && WIFEXITED(status) ? WEXITSTATUS(status) : -1;
-    pcm->process = -1;
-    return status;
 }
 
 #ifdef __cplusplus

@@ -3,20 +3,9 @@
 #define _GNU_SOURCE /* for this test alone: kill, usleep */
 #endif
 #include "pcm_copy.h"
+#include "test_checks.h"
 
 #include <dirent.h>
-
-static int passed, failed;
-
-static void check(int holds, const char *what)
-{
-    if (holds) {
-        passed++;
-    } else {
-        failed++;
-        fprintf(stderr, "failed: %s (errno %d)\n", what, errno);
-    }
-}
 
 /* What rows get, as one text. */
 struct told {
@@ -271,6 +260,5 @@ int main(int count, char **words)
     what_cannot_be_copied_is_told(words[1], all);
     a_copy_without_processes(words[1], all);
     standard_descriptors_may_be_closed(words[1], all);
-    printf("%d passed, %d failed\n", passed, failed);
-    return failed != 0;
+    return checked();
 }

@@ -1,17 +1,10 @@
-/* Tests of pcm_disk.h and pcm_cache.h over the program that the first word names. Prints 'N passed, M failed'. */
+/* Tests of pcm_disk.h and pcm_cache.h over the program that the first word names; or over the library, where they are compiled with PCM_STREAM_LIBRARY.
+   Prints 'N passed, M failed'. */
 #include "pcm_cache.h"
+#include "test_checks.h"
 
-static int passed, failed;
-
-static void check(int holds, const char *what)
-{
-    if (holds) {
-        passed++;
-    } else {
-        failed++;
-        fprintf(stderr, "failed: %s\n", what);
-    }
-}
+#include <fcntl.h>
+#include <unistd.h>
 
 static uint64_t state = 88172645463325252u;
 static uint64_t draw(uint64_t below)
@@ -359,36 +352,44 @@ static void rows_of_no_log(void)
     check(pcm_disk_replay(&disk, "4,R,0,\n") == EINVAL && pcm_disk_close(&disk) == 0, "whose successor may not be earlier");
 }
 
-/* The disk's banks are those that `PROGRAM map` prints. */
-static void banks(uint32_t count, uint32_t regions, uint32_t lines, uint64_t seed)
+#ifndef PCM_STREAM_LIBRARY
+/* Whether the disk's banks are those that `PROGRAM map` prints. */
+static int are_those_of_the_map(const struct pcm_disk_shape *shape)
 {
     static struct pcm map;
-    static uint8_t seen[65536];
-    struct pcm_disk_shape shape = small;
     char texts[4][21];
     const char *words[] = {program[0], "map", "--banks", texts[0], "--regions", texts[1], "--lines", texts[2], "--seed", texts[3], NULL};
-    const uint64_t numbers[] = {count, regions, lines, seed};
-    uint32_t all = count * regions * lines, right = 0;
+    const uint64_t numbers[] = {shape->banks, shape->regions, shape->lines, shape->seed};
+    uint32_t right = 0;
     enum pcm_result result;
     const char *text;
-    shape.banks = count;
-    shape.regions = regions;
-    shape.lines = lines;
-    shape.seed = seed;
     for (int i = 0; i < 4; i++)
         *pcm__put_number(texts[i], numbers[i]) = 0;
-    check(pcm_disk_open(&disk, program, &shape, NULL) == 0, "a disk");
-    check(pcm_open(&map, words) == PCM_OK, "its map");
-    close(map.to);
-    map.to = -1;
+    check(pcm_open(&map, words) == PCM_OK && pcm_finish(&map) == PCM_OK, "its map");
     while ((text = pcm__line(&map, &result)) != NULL) {
         char *end;
         uint32_t line = (uint32_t)strtoul(text, &end, 10);
         right += end > text && *end == ',' && pcm_disk_bank(&disk, line) == strtoul(end + 1, NULL, 10);
     }
-    check(pcm_close(&map) == 0 && right == all, "each line is in its bank");
+    return pcm_close(&map) == 0 && right == shape->banks * shape->regions * shape->lines;
+}
+#endif
+
+static void banks(uint32_t count, uint32_t regions, uint32_t lines, uint64_t seed)
+{
+    static uint8_t seen[65536];
+    struct pcm_disk_shape shape = small;
+    uint32_t all = count * regions * lines, right = 0;
+    shape.banks = count;
+    shape.regions = regions;
+    shape.lines = lines;
+    shape.seed = seed;
+    check(pcm_disk_open(&disk, program, &shape, NULL) == 0, "a disk");
+#ifndef PCM_STREAM_LIBRARY
+    check(are_those_of_the_map(&shape), "each line is in its bank");
+#endif
     memset(seen, 0, sizeof seen);
-    for (uint32_t line = right = 0; line < all; line++) {
+    for (uint32_t line = 0; line < all; line++) {
         uint32_t here = pcm_disk_line(&disk, line);
         right += pcm_disk_bank(&disk, here) == line % count && here < all && seen[here]++ == 0;
     }
@@ -478,7 +479,8 @@ static void waits_are_exact(void)
     check(pcm_disk_read(&disk, got, 64, 64) == 0 && memcmp(got, bytes + 192, 64) == 0 && pcm_disk_close(&disk) == 0, "it is what is read");
 }
 
-/* Modules of another shape, and programs whose answers are none. */
+#ifndef PCM_STREAM_LIBRARY
+/* Modules of another shape, programs whose answers are none, and words that are no program. */
 static void other_programs(void)
 {
     static const char answers[] = "echo row,outcome,tick,place,data; echo ',shape,0,1,4 2 16 4 64 8 4'; while IFS=, read -r tick op arg data; do case $op in "
@@ -488,6 +490,7 @@ static void other_programs(void)
     const char *silent[] = {"sh", "-c", "exec \"$0\" stream", program[0], NULL};
     const char *early[] = {"sh", "-c", answers, "1", "going", NULL}, *late[] = {"sh", "-c", answers, "-1", "going", NULL};
     const char *idle[] = {"sh", "-c", answers, "0", "going", NULL}, *halted[] = {"sh", "-c", answers, "0", "halted", NULL};
+    const char *none[] = {"/nowhere/pcm", NULL};
     int fault = 0;
     check(pcm_disk_open(&disk, other, &small, NULL) == EINVAL && pcm_disk_size(&disk) == 0, "a module of another shape has no bytes");
     check(pcm_disk_go_on(&disk, 9) == EIO && pcm_disk_resume(&disk) == EIO && pcm_disk_close(&disk) == 0, "nor time");
@@ -503,14 +506,15 @@ static void other_programs(void)
     while ((fault = pcm_disk_write(&disk, bytes, 64, 0)) == 0)
         ;
     check(fault == EROFS && disk.now < 3000 && disk.worn && pcm_disk_close(&disk) == 0, "isn't");
+    check(pcm_disk_open(&disk, none, &small, NULL) == ENOENT && pcm_disk_write(&disk, bytes, 64, 0) == EIO, "no program");
+    check(pcm_disk_read(&disk, got, 64, 0) == EIO && disk.pcm.rows == 0 && pcm_disk_close(&disk) == -1, "takes no request");
 }
+#endif
 
 static void misuse(void)
 {
-    const char *wrong[] = {"--psi", "0", NULL}, *none[] = {"/nowhere/pcm", NULL};
+    const char *wrong[] = {"--psi", "0", NULL};
     struct pcm_disk_shape odd = small;
-    check(pcm_disk_open(&disk, none, &small, NULL) == ENOENT && pcm_disk_write(&disk, bytes, 64, 0) == EIO, "no program");
-    check(pcm_disk_read(&disk, got, 64, 0) == EIO && disk.pcm.rows == 0 && pcm_disk_close(&disk) == -1, "takes no request");
     check(pcm_disk_open(&disk, program, &small, wrong) == EPIPE && pcm_disk_close(&disk) == 2, "an option out of range");
     const struct pcm_disk_shape shapes[] = {
         {3, 2, 16, 64, 4, 8, 4, 5, 10, 0, 0, 0}, {128, 2, 16, 64, 4, 8, 4, 5, 10, 0, 0, 0},   {4, 0, 16, 64, 4, 8, 4, 5, 10, 0, 0, 0},
@@ -626,8 +630,9 @@ int main(int count, char **words)
         worn("array", idle, 512);
     }
     waits_are_exact();
+#ifndef PCM_STREAM_LIBRARY
     other_programs();
+#endif
     misuse();
-    printf("%d passed, %d failed\n", passed, failed);
-    return failed != 0;
+    return checked();
 }

@@ -1,18 +1,7 @@
 /* Tests of pcm.h over the library that it is linked with. Prints 'N passed, M failed'. */
 #include "pcm.h"
 #include "pcm_stream.h" /* (both may stand in one file) */
-
-static int passed, failed;
-
-static void check(int holds, const char *what)
-{
-    if (holds) {
-        passed++;
-    } else {
-        failed++;
-        fprintf(stderr, "failed: %s\n", what);
-    }
-}
+#include "test_checks.h"
 
 static struct pcm_module opened(const struct pcm_module_options *options)
 {
@@ -227,22 +216,6 @@ static void masked_writes_give_some_bytes(void)
     pcm_module_close(&pcm);
 }
 
-static void banks_tell_what_waits(void)
-{
-    struct pcm_module_options options = PCM_MODULE_DEFAULTS;
-    options.banks = 1;
-    struct pcm_module pcm = opened(&options);
-    struct pcm_module_backlog bank;
-    uint8_t bytes[64] = {1};
-    for (uint32_t i = 0; i < 5; i++)
-        check(pcm_module_write(&pcm, 0, i, bytes, 64) == PCM_MODULE_OK, "a write");
-    check(pcm_module_read(&pcm, 0, 100) == PCM_MODULE_OK && pcm_module_read(&pcm, 0, 101) == PCM_MODULE_OK, "two reads");
-    check(pcm_module_bank(&pcm, 0, &bank) == PCM_MODULE_OK && bank.writes == 5 && bank.reads == 2, "all of them wait");
-    check(bank.mark == PCM_MODULE_GOING && pcm_module_settle(&pcm, 1000) == PCM_MODULE_OK, "the bank goes on");
-    check(pcm_module_bank(&pcm, 0, &bank) == PCM_MODULE_OK && bank.writes == 0 && bank.reads == 0, "and none of them waits");
-    pcm_module_close(&pcm);
-}
-
 static void layouts_are_those_of_the_library(void)
 {
     check(sizeof(struct pcm_module) == 16 && offsetof(struct pcm_module, at) == 8, "a module");
@@ -262,7 +235,5 @@ int main(void)
     two_modules_share_nothing();
     long_lines_have_128_bytes();
     masked_writes_give_some_bytes();
-    banks_tell_what_waits();
-    printf("%d passed, %d failed\n", passed, failed);
-    return failed != 0;
+    return checked();
 }

@@ -3,9 +3,12 @@ import base64
 import hashlib
 import pathlib
 import re
+import sysconfig
 import zipfile
 
 HERE = pathlib.Path(__file__).resolve().parent
+# The module as a shared object, where tools/build library has made it: a wheel that has it is one for such machines alone.
+LIBRARY = HERE.parent / "crates" / "pcm_c" / "out" / "libpcm.so.1"
 
 
 def _project():
@@ -21,20 +24,21 @@ def _metadata(project):
     )
 
 
-def _built(wheel_directory, files):
+def _built(wheel_directory, files, machine="any"):
     """Writes a wheel of these files, by their names, with what every wheel has; answers its name."""
     project = _project()
     stem = f"{project['name']}-{project['version']}"
     about = f"{stem}.dist-info"
     files = dict(files)
     files[f"{about}/METADATA"] = _metadata(project).encode()
-    files[f"{about}/WHEEL"] = b"Wheel-Version: 1.0\nGenerator: wheel_of\nRoot-Is-Purelib: true\nTag: py3-none-any\n"
+    pure = "true" if machine == "any" else "false"
+    files[f"{about}/WHEEL"] = f"Wheel-Version: 1.0\nGenerator: wheel_of\nRoot-Is-Purelib: {pure}\nTag: py3-none-{machine}\n".encode()
     record = "".join(
         f"{name},sha256={base64.urlsafe_b64encode(hashlib.sha256(data).digest()).decode().rstrip('=')},{len(data)}\n"
         for name, data in files.items()
     )
     files[f"{about}/RECORD"] = (record + f"{about}/RECORD,,\n").encode()
-    name = f"{stem}-py3-none-any.whl"
+    name = f"{stem}-py3-none-{machine}.whl"
     with zipfile.ZipFile(pathlib.Path(wheel_directory) / name, "w", zipfile.ZIP_DEFLATED) as wheel:
         for path, data in files.items():
             wheel.writestr(path, data)
@@ -44,7 +48,10 @@ def _built(wheel_directory, files):
 def build_wheel(wheel_directory, config_settings=None, metadata_directory=None):
     """Writes the wheel (PEP 517), and answers its name."""
     files = {f"pcm/{file.name}": file.read_bytes() for file in sorted((HERE / "pcm").iterdir()) if file.suffix in (".py", ".c", ".h")}
-    return _built(wheel_directory, {**files, "pcm/py.typed": b""})
+    files["pcm/py.typed"] = b""
+    if not LIBRARY.is_file():
+        return _built(wheel_directory, files)
+    return _built(wheel_directory, {**files, f"pcm/{LIBRARY.name}": LIBRARY.read_bytes()}, re.sub("[-.]", "_", sysconfig.get_platform()))
 
 
 def build_editable(wheel_directory, config_settings=None, metadata_directory=None):

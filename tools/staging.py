@@ -111,7 +111,7 @@ def files():
         yield f"share/man/man1/{name}", pages.PAGES[name]().encode(), False
     yield "share/bash-completion/completions/pcm", pages.bash().encode(), False
     yield "share/zsh/site-functions/_pcm", pages.zsh().encode(), False
-    for it in sorted((TOP / "c").glob("*.h")):
+    for it in sorted((TOP / "c").glob("pcm*.h")):
         yield f"include/{it.name}", it, False
     yield from firmware()
     yield from library()

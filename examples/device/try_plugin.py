@@ -2,9 +2,9 @@
 """What the check of this folder tries of the plugin, over libnbd: copies, parts of lines, power cuts, sectors, restarts from a log, the control
 export, wrong parameters, a program that ends, a module that wears out, real time. Prints 'N passed, M failed'.
 
-    try_plugin.py PLUGIN PCM
+    try_plugin.py PLUGIN PCM [--library]
 
-It needs nbdkit, libnbd-bin (nbdcopy), python3-libnbd and the system's python3, which has it."""
+With --library the plugin is one over libpcm, without a program, so nothing is tried that a program can do to it. It needs nbdkit, libnbd-bin (nbdcopy), python3-libnbd and the system's python3, which has it."""
 import errno
 import os
 import pathlib
@@ -21,6 +21,7 @@ import nbd
 import servers
 
 PLUGIN, PCM = (os.path.realpath(it) for it in sys.argv[1:3])
+HAS_PROGRAM = sys.argv[3:] != ["--library"]
 ROOM = pathlib.Path(tempfile.mkdtemp(prefix="pcm-device-"))
 SMALL = ["banks=4", "regions=2", "lines=64", "line=64", "spares=4"]
 STARTED = []
@@ -329,6 +330,8 @@ def a_command_never_waits_for_a_server_that_cannot_start(log):
                 ([f"log={other}"], "it isn't a row of such a disk"), (["log=/nowhere/log"], "No such file"), ([f"log={pipe}"], "it isn't a regular file"),
                 (["psi=2", f"log={other}"], "has 100 behind --psi")):
             own = [] if parameters[0].startswith("pcm=") else [f"pcm={PCM}"]
+            if not own and not HAS_PROGRAM:
+                continue
             try:
                 done = subprocess.run(["nbdkit", "-U", "-", PLUGIN, *own, *SMALL, "misses=1", *parameters, "--run", "nbdinfo --size $uri"],
                                       stdin=subprocess.DEVNULL, capture_output=True, text=True, timeout=20)
@@ -409,6 +412,8 @@ def a_disk_goes_on_from_its_log():
 
 
 def refused(what, *parameters):
+    if parameters[0].startswith("pcm=") and not HAS_PROGRAM:
+        return
     with server(*parameters) as it:
         try:
             it.process.wait(30)
@@ -589,7 +594,8 @@ def main():
         first_rows_of_a_log()
         cuts_are_drawn_or_named()
         cuts_of_control_come_beside_the_others()
-        a_module_that_forgets_is_found_out()
+        if HAS_PROGRAM:
+            a_module_that_forgets_is_found_out()
         log = the_disk_as_a_cut_left_it(a_disk_goes_on_from_its_log())
         a_server_in_the_background_tells_of_a_wrong_log(log)
         a_command_never_waits_for_a_server_that_cannot_start(log)
@@ -597,7 +603,8 @@ def main():
         other_logs_are_refused(log)
         the_control_export()
         wrong_parameters()
-        a_program_that_ends()
+        if HAS_PROGRAM:
+            a_program_that_ends()
         a_module_that_wears_out()
         a_worn_disk_stays_so(ROOM / "worn.csv")
         real_time()

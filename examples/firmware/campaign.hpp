@@ -9,6 +9,8 @@
 #include <csignal>
 #include <cstdarg>
 #include <sys/prctl.h>
+#include <sys/wait.h>
+#include <unistd.h>
 
 /* What is tried. */
 struct Plan {

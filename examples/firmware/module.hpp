@@ -8,6 +8,7 @@
 
 #include <memory>
 #include <set>
+#include <unistd.h>
 
 /* How modules are made. */
 struct Making {

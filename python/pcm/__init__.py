@@ -7,7 +7,7 @@ Whole traces, by the program's command `run`::
     for row in done.rows:
         print(row.number, row.outcome)
 
-Row by row, over a pipe to its second program, `stream`, with answers as they become known::
+Row by row, over a pipe to its second program, `stream`, or in this process, with answers as they become known::
 
     with pcm.Module(banks=4, policy="cancel") as module:
         module.write(0, 7, b"\\xff" * 64)

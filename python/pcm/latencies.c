@@ -6,21 +6,10 @@
    It prints `OUTCOME TICKS COUNT` for each outcome and number of ticks that came, in any order, and last `without COUNT`, rows of the trace
    that have no outcome. Status 3: a row isn't of the plain form that it reads fast (quotes, CR, blank lines, a mark): the pass in Python
    reads those, and says what is wrong where something is. Standard error has a line then where the last of ROWS isn't ended. */
-#include <fcntl.h>
 #include <inttypes.h>
-#include <stdio.h>
-#include <stdlib.h>
-#include <string.h>
-#include <unistd.h>
 
 #include "drawn.h"
-
-static void leave(int status, const char *why)
-{
-    if (why)
-        fprintf(stderr, "%s\n", why);
-    exit(status);
-}
+#include "lines.h"
 
 /* Numbers by numbers: linear probing in a table that is at most half full. Keys are kept one higher, so that 0 is none. */
 struct map {
@@ -97,61 +86,17 @@ static int map_take(struct map *map, uint64_t key, uint64_t *value)
     return 1;
 }
 
-/* The lines of a file. */
-struct lines {
-    int fd, ended, whole; /* (whole: its last line has its end) */
-    char *text;
-    size_t from, until, room;
-};
-
-static void lines_open(struct lines *lines, const char *name, int whole)
+/* The next line of plain rows, each ended by LF; NULL where there is none. (A trace's last line may lack its end; where a row of a stream does, those
+   behind it are missing.) */
+static char *plain_line(struct lines *lines, int is_whole)
 {
-    lines->whole = whole;
-    lines->fd = strcmp(name, "-") ? open(name, O_RDONLY) : 0;
-    if (lines->fd < 0) {
-        perror(name);
-        exit(4);
-    }
-    lines->room = 1 << 18;
-    lines->text = malloc(lines->room);
-    if (!lines->text)
-        leave(7, "out of memory");
-    lines->ended = 0;
-    lines->from = lines->until = 0;
-}
-
-/* The next line, which LF ends; NULL where there is none. */
-static char *lines_next(struct lines *lines)
-{
-    size_t seen = lines->from;
-    for (;;) {
-        char *end = memchr(lines->text + seen, '\n', lines->until - seen);
-        if (end) {
-            char *line = lines->text + lines->from;
-            lines->from = (size_t)(end - lines->text) + 1;
-            return line;
-        }
-        if (lines->ended)
-            return NULL;
-        memmove(lines->text, lines->text + lines->from, lines->until - lines->from);
-        lines->until -= lines->from;
-        lines->from = 0;
-        seen = lines->until;
-        if (lines->until + 2 >= lines->room)
-            leave(3, NULL);
-        ssize_t got = read(lines->fd, lines->text + lines->until, lines->room - lines->until - 2);
-        if (got < 0)
-            leave(4, "reading failed");
-        lines->ended = got == 0;
-        /* (a trace's last line may lack its end; where a row of a stream does, those behind it are missing) */
-        if (got == 0 && lines->until > 0) {
-            if (lines->whole)
-                leave(3, "the last line isn't ended");
-            lines->text[lines->until++] = '\n';
-        }
-        lines->until += (size_t)got;
-        lines->text[lines->until] = 0;
-    }
+    size_t length = 0;
+    char *line = next_line(lines, &length);
+    if (length > ROOM)
+        leave(3, NULL);
+    if (line && is_whole && lines->lacks_end && lines->from == lines->until)
+        leave(3, "the last line isn't ended");
+    return line;
 }
 
 /* The number at a place, which a comma must end; it goes behind that. */
@@ -193,7 +138,7 @@ static int come(void)
     if (is_drawn)
         return come_drawn();
     do {
-        line = lines_next(&trace);
+        line = plain_line(&trace, 0);
         if (!line)
             return -1;
         now = number(&line);
@@ -263,16 +208,16 @@ int main(int count, char **words)
         if (!drawn_by(&drawn, words[2]))
             leave(2, "--drawn wants eight numbers");
     } else {
-        lines_open(&trace, words[1], 0);
-        char *head = lines_next(&trace);
+        open_lines(&trace, strcmp(words[1], "-") ? -1 : 0, words[1]);
+        char *head = plain_line(&trace, 0);
         if (!head || strncmp(head, "tick,op,arg,data\n", 17))
             leave(3, NULL);
     }
-    lines_open(&rows, words[count - 1], 1);
-    char *line = lines_next(&rows);
+    open_lines(&rows, strcmp(words[count - 1], "-") ? -1 : 0, words[count - 1]);
+    char *line = plain_line(&rows, 1);
     if (!line || strncmp(line, "row,outcome,tick,place,data\n", 28))
         leave(3, NULL);
-    while ((line = lines_next(&rows)))
+    while ((line = plain_line(&rows, 1)))
         told(line);
     uint64_t without = waiting.used;
     while (come() >= 0)

@@ -142,9 +142,10 @@ class Shape:
     read_queue: int
 
 
-_MARKS = ("going", "exhausted", "halted")
-_KINDS: Tuple[Type[Outcome], ...] = (Stored, Merged, Queued, Full, Worn, Read, Forwarded, Busy, Lost, Cut)
-_BY_WORD: Dict[str, Type[Outcome]] = {it.word: it for it in _KINDS}
+MARKS = ("going", "exhausted", "halted")
+# In the order of their numbers in c/pcm.h.
+KINDS: Tuple[Type[Outcome], ...] = (Stored, Merged, Queued, Full, Worn, Read, Forwarded, Busy, Lost, Cut)
+_BY_WORD: Dict[str, Type[Outcome]] = {it.word: it for it in KINDS}
 
 
 def outcome_of(word: str, row: int, tick: int, place: str, data: str) -> Outcome:
@@ -161,7 +162,7 @@ def outcome_of(word: str, row: int, tick: int, place: str, data: str) -> Outcome
 
 def _backlog_of(tick: int, bank: int, data: str) -> Backlog:
     writes, reads, mark = data.split(" ")
-    if mark not in _MARKS:
+    if mark not in MARKS:
         raise ValueError(mark)
     return Backlog(tick, bank, int(writes), int(reads), mark)
 

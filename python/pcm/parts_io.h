@@ -1,32 +1,15 @@
-/* What the passes of parts.c share: bytes on their way to a file, and lines of one. */
+/* What the passes of parts.c share: their words, and bytes on their way to a file. */
 #ifndef PCM_PARTS_IO_H
 #define PCM_PARTS_IO_H
 
-#include <errno.h>
-#include <fcntl.h>
 #include <inttypes.h>
-#include <stdint.h>
-#include <stdio.h>
-#include <stdlib.h>
-#include <string.h>
-#include <unistd.h>
 
-enum { PARTS = 64, PIECE = 1 << 16, ROOM = 1 << 18, DIGITS = 18, MOST_OF_ROW = 320 };
+#include "lines.h"
+
+enum { PARTS = 64, PIECE = 1 << 16, DIGITS = 18, MOST_OF_ROW = 320 };
 enum kind { READ, WRITE, CUT, SETTLE, PASSED = 7 };
 static const uint64_t LAST_TICK = UINT64_C(1) << 40;
 static const char HEADER[] = "tick,op,arg,data\n", TOLD[] = "row,outcome,tick,place,data\n";
-
-static void leave(int status, const char *why)
-{
-    fprintf(stderr, "%s\n", why);
-    exit(status);
-}
-
-static void leave_file(int status, const char *name)
-{
-    fprintf(stderr, "%s: %s\n", name, strerror(errno));
-    exit(status);
-}
 
 static inline int is_digit(char it) { return (unsigned char)(it - '0') < 10; }
 
@@ -111,70 +94,6 @@ static void finish(struct sink *sink)
     if (close(sink->fd))
         leave_file(5, sink->name);
     free(sink);
-}
-
-/* Lines of a file, each ended by LF. */
-struct lines {
-    int fd, ended;
-    const char *name;
-    char *text;
-    size_t from, until, room;
-    uint64_t left; /* (bytes that may be read) */
-};
-
-static void open_lines(struct lines *lines, int fd, const char *name)
-{
-    lines->fd = fd >= 0 ? fd : open(name, O_RDONLY);
-    if (lines->fd < 0)
-        leave_file(4, name);
-    lines->name = name;
-    lines->room = ROOM;
-    lines->text = malloc(lines->room + 1);
-    if (!lines->text)
-        leave(7, "out of memory");
-    lines->ended = 0;
-    lines->from = lines->until = 0;
-    lines->left = UINT64_MAX;
-}
-
-/* The next line with its end, and its length; NULL where there is none. A last line without an end gets one. */
-static char *next_line(struct lines *lines, size_t *length)
-{
-    size_t seen = lines->from;
-    for (;;) {
-        char *end = memchr(lines->text + seen, '\n', lines->until - seen);
-        if (end) {
-            char *line = lines->text + lines->from;
-            *length = (size_t)(end - line) + 1;
-            lines->from += *length;
-            return line;
-        }
-        if (lines->ended)
-            return NULL;
-        memmove(lines->text, lines->text + lines->from, lines->until - lines->from);
-        lines->until -= lines->from;
-        lines->from = 0;
-        seen = lines->until;
-        if (lines->until == lines->room) {
-            lines->room *= 2;
-            lines->text = realloc(lines->text, lines->room + 1);
-            if (!lines->text)
-                leave(7, "out of memory");
-        }
-        size_t most = lines->room - lines->until;
-        ssize_t got = read(lines->fd, lines->text + lines->until, most < lines->left ? most : (size_t)lines->left);
-        if (got < 0 && errno == EINTR)
-            continue;
-        if (got < 0)
-            leave_file(4, lines->name);
-        if (got == 0) {
-            lines->ended = 1;
-            if (lines->until)
-                lines->text[lines->until++] = '\n';
-        }
-        lines->left -= (uint64_t)got;
-        lines->until += (size_t)got;
-    }
 }
 
 #endif

@@ -12,6 +12,15 @@ def masked(data: Sequence[Optional[int]]) -> str:
     return "".join(".." if byte is None else bytes((byte,)).hex() for byte in data)
 
 
+# What a row gives: the bytes of a line, or the digits of one that gives some of them.
+Given = Union[bytes, str]
+
+
+def text_of(op: str, tick: int, number: int, data: Given) -> str:
+    """The text of a row by its letter and its number: a line, or the row that a settle until waits for."""
+    return f"{tick},{op},{number if op in 'RWMU' else ''},{data if isinstance(data, str) else data.hex()}\n"
+
+
 @dataclass(frozen=True)
 class Read:
     """A read of a line arrives at a tick."""

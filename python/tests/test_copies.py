@@ -166,8 +166,8 @@ class Copies(unittest.TestCase):
     def test_a_program_that_was_killed_is_told(self):
         module = pcm.Module(copies=True, **OPTIONS)
         module.settle(1)
-        module._process.kill()
-        module._process.wait()
+        module._way.process.kill()
+        module._way.process.wait()
         with self.assertRaises(pcm.PcmError):
             module.copy()
         module.close()

@@ -45,8 +45,8 @@ class Frames(unittest.TestCase):
 
     def test_outcomes_with_their_rows(self):
         with pcm.Module(end="off", **SMALL) as module:
-            for row in self.ROWS:
-                module._gather(row.text())
+            for number, row in enumerate(self.ROWS, 1):
+                module._way.gather(number, row.text())
             outcomes = sorted(module.finish(), key=lambda it: it.row)
         with tempfile.TemporaryDirectory() as folder:
             path = pathlib.Path(folder) / "trace.csv"

@@ -160,7 +160,7 @@ class Streams(unittest.TestCase):
             told = []
             with pcm.Module(policy=policy, **WORN) as module:
                 for row in rows:
-                    module._hand(row.tick, row.text())
+                    module._play(row)
                     told += module.outcomes()
                 told += module.finish()
             self.assertEqual((3000, wanted), (len(told), set(told)))
@@ -224,7 +224,7 @@ class Streams(unittest.TestCase):
         with pcm.Module(**SMALL) as module:
             module.write(0, 0, ONES)
             module.close()
-            self.assertIsNotNone(module._process.returncode)
+            self.assertIsNotNone(module._way.process.returncode)
 
     def closed(self, *, known=0, **options):
         """A module that was closed before its end, when so many outcomes were known that nobody had taken."""
@@ -281,7 +281,7 @@ class Streams(unittest.TestCase):
         ended.close()
         self.assertEqual(([], 0), (ended.finish(), ended.status))
         faulty.read(100, 9)
-        killed._process.kill()
+        killed._way.process.kill()
         for module, kind in ((faulty, pcm.TraceError), (killed, pcm.PcmError)):
             texts = set()
             for call in (lambda module=module: module.settle(100), module.finish, module.close, module.finish, module.close, module.finish):

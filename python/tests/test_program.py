@@ -338,7 +338,7 @@ class Faults(Rooms):
                 told += module.finish()
             with pcm.Module(end="off") as module:
                 for row in pcm.read_trace(io.StringIO(log.getvalue(), newline="")):
-                    module._hand(row.tick, row.text())
+                    module._play(row)
                 again = module.finish()
             self.assertEqual([(1, "stored", 15), (2, "cut", 15)], [(it.row, it.word, it.tick) for it in told])
             self.assertEqual((is_cut, [2, 1] if not is_cut else [1, 2]), (again == told, [it.row for it in again]))
