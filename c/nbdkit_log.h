@@ -90,6 +90,7 @@ static int write_args(void)
 /* Opens the log, for this server alone; or, where its first rows are played, as one that stays as it is. */
 static int open_log(void)
 {
+    static char buffer[1 << 18];
     int is_kept = parameter("log-rows")->is_given;
     struct flock whole = {.l_type = is_kept ? F_RDLCK : F_WRLCK, .l_whence = SEEK_SET};
     struct stat is;
@@ -99,7 +100,8 @@ static int open_log(void)
         close(file);
         return -1;
     }
-    if (file < 0 || (log_file = fdopen(file, is_kept ? "r" : "a+")) == NULL || fseeko(log_file, 0, SEEK_SET) != 0) {
+    if (file < 0 || (log_file = fdopen(file, is_kept ? "r" : "a+")) == NULL || setvbuf(log_file, buffer, _IOFBF, sizeof buffer) != 0
+        || fseeko(log_file, 0, SEEK_SET) != 0) {
         nbdkit_error("%s: %m", log_name);
         return -1;
     }
