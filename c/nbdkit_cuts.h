@@ -78,6 +78,19 @@ static void note_cut(uint64_t before)
     set_cut();
 }
 
+/* The cuts of a disk's life are still to come; those at ticks that have passed are over. */
+static void begin_cuts(void)
+{
+    cut_ticks = parameter("cut-ticks")->text;
+    cut_state = request_state = parameter("cut-seed")->value;
+    requests_due[0] = cut_requests != 0 ? 1 + drawn(&request_state, 2 * cut_requests) : 0;
+    requests_due[1] = 0;
+    switches = 0;
+    do
+        next_cut();
+    while (due <= disk.now && cuts == 0);
+}
+
 /* A cut comes between requests: of what the cache holds some has gone to the module before, and no other cut comes meanwhile. */
 static void scatter(void)
 {

@@ -51,6 +51,7 @@ static struct parameter {
     {"log", IS_TEXT, 0, 0, NULL, 0, NULL, 0},
     {"log-reads", IS_WORD, 0, 0, "needed|all", 0, "needed", 0},
     {"log-rows", IS_NUMBER, 0, PCM_LAST_ROW, NULL, 0, NULL, 0},
+    {"copies", IS_TEXT, 0, 0, NULL, 0, NULL, 0},
     {"report", IS_TEXT, 0, 0, NULL, 0, NULL, 0},
 };
 enum { PARAMETERS = sizeof parameters / sizeof *parameters, MODULES_OWN = 16, FIRST_OPTION = 10, OPTIONS = 7 };

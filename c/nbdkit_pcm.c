@@ -1,39 +1,42 @@
 /* nbdkit_pcm.c: a phase-change memory module as a network block device, a plugin of nbdkit (1.32 or later).
 
-       make -C c                      # or: cc -std=c11 -O2 -fPIC -shared -o c/out/nbdkit-pcm-plugin.so c/nbdkit_pcm.c
+       make -C c                      # or: cc -std=c11 -O2 -pthread -fPIC -shared -o c/out/nbdkit-pcm-plugin.so c/nbdkit_pcm.c
        nbdkit -U - c/out/nbdkit-pcm-plugin.so pcm=./pcm misses=3 --run 'nbdcopy disk.img $uri'
 
    The export "" is the disk. The export "control" is 4096 bytes of text: read, it tells the disk's clock and what became of its rows; written
    at its first byte, `cut` cuts the power there, `cut N` in N ticks whatever the disk does then, `cut N requests` before the N-th request from then on
-   that writes or flushes (0: no longer), and `wait N` lets N ticks pass, through each cut that is due in them.
+   that writes or flushes (0: no longer), and `wait N` lets N ticks pass, through each cut that is due in them. With copies=LIBRARY `row N` makes it
+   the disk as row N of the log left it, and `from N` says that no row before N is asked for any more.
    docs/USING.md ('Use a module as a disk') says what it is, examples/device/README.md what it keeps and its parameters. */
 #define _GNU_SOURCE /* (so answers come through a pipe: pcm_stream.h) */
 #define NBDKIT_API_VERSION 2
-#include "nbdkit_cuts.h"
+#include "nbdkit_rows.h"
 
 #include <fcntl.h>
+#include <pthread.h>
 #include <sys/stat.h>
 #include <time.h>
 #include <unistd.h>
 
 #define THREAD_MODEL NBDKIT_THREAD_MODEL_SERIALIZE_ALL_REQUESTS
 #define CONTROL_SIZE 4096
-#define HEADER "tick,op,arg,data\n"
 
 struct connection {
     int is_control;
-    int is_told;    /* that the power was cut */
-    uint64_t power; /* how many power cuts were before it */
+    int is_told;           /* that the power was cut */
+    uint64_t power, lives; /* how many power cuts and disks were before it */
 };
 
-static struct pcm_disk_shape shape;
-static char *program, *log_name, *args_name, *report_name;
-static FILE *log_file;
-static int log_failed, rides;       /* log_failed: why, a number of errno.h */
-static int logs_all;                /* also reads of banks at rest */
-static int has_ended;               /* the program has, and so does the server */
+static char *program, *report_name;
+static int rides;
 static uint64_t tick_ns, row_ticks;
 static struct timespec begun;
+
+/* The program that ends without a request is noticed by a thread. What the disk and its log have is its own while it holds `acting`, or a request's. */
+static pthread_mutex_t acting = PTHREAD_MUTEX_INITIALIZER;
+static pthread_t watcher;
+static int watcher_ends[2] = {-1, -1}; /* a byte wakes it: `q` where it isn't wanted any more */
+static int has_ended;                  /* the program has, and so does the server */
 
 static uint64_t value_of(const char *name)
 {
@@ -89,6 +92,10 @@ static int check_together(void)
         nbdkit_error("log-rows says how many rows of a log are played: give log");
         return -1;
     }
+    if (parameter("copies")->text != NULL && !parameter("log-rows")->is_given) {
+        nbdkit_error("copies goes from row to row of a log: give log-rows, the first one");
+        return -1;
+    }
     if (cuts != 0 && parameter("cut-ticks")->is_given) {
         nbdkit_error("cuts draws the power cuts, cut-ticks names them: give one of the two");
         return -1;
@@ -99,12 +106,12 @@ static int check_together(void)
 /* Files by their whole names, since a server in the background changes its folder. */
 static int check_files(void)
 {
-    const char *name = parameter("pcm")->text, *log = parameter("log")->text, *report = parameter("report")->text;
+    const char *name = parameter("pcm")->text, *log = parameter("log")->text, *report = parameter("report")->text, *copies = parameter("copies")->text;
     size_t size = log == NULL ? 0 : strlen(log) + 1;
     if (name == NULL)
         name = access("./pcm", X_OK) == 0 ? "./pcm" : "pcm";
     program = strchr(name, '/') != NULL ? nbdkit_realpath(name) : strdup(name); /* (a name without a slash is looked for on the search path) */
-    if (program == NULL)
+    if (program == NULL || (copies != NULL && (library = nbdkit_realpath(copies)) == NULL))
         return -1;
     if (report != NULL) {
         FILE *file = (report_name = nbdkit_absolute_path(report)) == NULL ? NULL : fopen(report_name, "ae");
@@ -125,200 +132,6 @@ static int check_files(void)
     return 0;
 }
 
-/* ---- The log: a trace of the disk's rows. Beside it, FILE.args has the words of its module in one line, and the disk's own in a second. */
-
-static void keep_row(void *context, char op, const char *row, size_t size)
-{
-    (void)context;
-    if (strchr("RWMC", op) != NULL && (!disk.is_idle || logs_all) && fwrite(row, 1, size, log_file) != size && log_failed == 0)
-        log_failed = errno;
-}
-
-static void args_text(char *to, size_t size)
-{
-    size_t at = 0;
-    for (int i = 0; i < MODULES_OWN; i++) {
-        const struct parameter *it = &parameters[i];
-        at += (size_t)(it->is == IS_WORD ? snprintf(to + at, size - at, "--%s %s", it->name, it->text)
-                                         : snprintf(to + at, size - at, "--%s %llu", it->name, (unsigned long long)it->value));
-        to[at++] = i + 1 < MODULES_OWN ? ' ' : '\n';
-    }
-    snprintf(to + at, size - at, "atomic %lu straight %lu\n", (unsigned long)shape.atomic, (unsigned long)shape.straight);
-}
-
-/* Refuses a log that was written with other options, by the first word that differs. */
-static int check_args(void)
-{
-    char wanted[1024], found[1024];
-    FILE *args = fopen(args_name, "re");
-    size_t size;
-    if (args == NULL) {
-        nbdkit_error("%s: %m: it should say with which options %s was written", args_name, log_name);
-        return -1;
-    }
-    size = fread(found, 1, sizeof found - 1, args);
-    fclose(args);
-    found[size] = 0;
-    args_text(wanted, sizeof wanted);
-    if (strcmp(found, wanted) == 0)
-        return 0;
-    char *of_found, *of_wanted, *name = strtok_r(found, " \n", &of_found), *other = strtok_r(wanted, " \n", &of_wanted);
-    const char *last = "its first word";
-    while (name != NULL && other != NULL && strcmp(name, other) == 0) {
-        last = name;
-        name = strtok_r(NULL, " \n", &of_found);
-        other = strtok_r(NULL, " \n", &of_wanted);
-    }
-    nbdkit_error("%s was written with other options: %s has %s behind %s, this server %s", log_name, args_name, name != NULL ? name : "nothing", last,
-                 other != NULL ? other : "nothing");
-    return -1;
-}
-
-/* Refuses a log, by its first line, that isn't one, or that was written with other options. (Where that line isn't whole, the log begins anew.) */
-static int check_header(const char *line)
-{
-    if (strncmp(line, HEADER, strlen(line)) != 0) {
-        nbdkit_error("%s is no log: it doesn't begin with the header of a trace", log_name);
-        return -1;
-    }
-    return strchr(line, '\n') == NULL ? 0 : check_args();
-}
-
-static int write_args(void)
-{
-    char text[1024];
-    FILE *args = fopen(args_name, "we");
-    args_text(text, sizeof text);
-    if (args == NULL || fputs(text, args) < 0 || fflush(args) != 0 || fsync(fileno(args)) != 0) {
-        nbdkit_error("%s: %m", args_name);
-        if (args != NULL)
-            fclose(args);
-        return -1;
-    }
-    fclose(args);
-    return 0;
-}
-
-/* Opens the log, for this server alone; or, where its first rows are played, as one that stays as it is. */
-static int open_log(void)
-{
-    int is_kept = parameter("log-rows")->is_given;
-    struct flock whole = {.l_type = is_kept ? F_RDLCK : F_WRLCK, .l_whence = SEEK_SET};
-    struct stat is;
-    int file = open(log_name, (is_kept ? O_RDONLY : O_RDWR | O_CREAT | O_APPEND) | O_CLOEXEC | O_NONBLOCK, 0666); /* (a pipe isn't waited for) */
-    if (file >= 0 && fstat(file, &is) == 0 && !S_ISREG(is.st_mode)) {
-        nbdkit_error("%s is no log: it isn't a regular file", log_name);
-        close(file);
-        return -1;
-    }
-    if (file < 0 || (log_file = fdopen(file, is_kept ? "r" : "a+")) == NULL || fseeko(log_file, 0, SEEK_SET) != 0) {
-        nbdkit_error("%s: %m", log_name);
-        return -1;
-    }
-    if (fcntl(file, F_SETLK, &whole) != 0) {
-        nbdkit_error("%s: %s", log_name, errno == EACCES || errno == EAGAIN ? "another server has it open" : strerror(errno));
-        return -1;
-    }
-    return 0;
-}
-
-/* What was logged is handed to the system, with `is_synced` to its own disk; else no later request is answered. */
-static int flush_log(int is_synced)
-{
-    if (log_file == NULL)
-        return 0;
-    if ((fflush(log_file) != 0 || (is_synced && fdatasync(fileno(log_file)) != 0)) && log_failed == 0)
-        log_failed = errno;
-    if (log_failed != 0)
-        nbdkit_error("%s can't be written: %s", log_name, strerror(log_failed));
-    return log_failed != 0 ? EIO : 0;
-}
-
-/* Whether a row is one of such a disk, which the disk isn't sent. 0, or EINVAL. */
-static int look_at(const char *row)
-{
-    struct pcm__traced it;
-    if (!pcm_disk__get_row(&disk, row, &it))
-        return EINVAL;
-    disk.now = it.tick;
-    return 0;
-}
-
-/* Goes over the rows of the log, and puts where they end. One without its end was never answered (its server was ended while it wrote). */
-static int each_row(int (*act)(const char *), off_t *end)
-{
-    const struct parameter *most = parameter("log-rows");
-    char row[PCM_MOST_ROW];
-    unsigned long long number = 0;
-    size_t size = 0;
-    off_t at = 0;
-    for (; (!most->is_given || number <= most->value) && fgets(row, sizeof row, log_file) != NULL; at += (off_t)size, number++) {
-        int fault = 0;
-        size = strlen(row);
-        if (number == 0 && check_header(row) != 0)
-            return -1;
-        if ((size == 0 || row[size - 1] != '\n') && size < sizeof row - 1)
-            break;
-        if (number > 0)
-            fault = act(row);
-        if (fault != 0) {
-            nbdkit_error("%s, row %llu: %s", log_name, number, fault == EINVAL ? "it isn't a row of such a disk" : strerror(fault));
-            return -1;
-        }
-    }
-    *end = at;
-    if (most->is_given && number <= most->value) {
-        nbdkit_error("log-rows=%llu: %s has %llu rows", (unsigned long long)most->value, log_name, number == 0 ? 0 : number - 1);
-        return -1;
-    }
-    if (ferror(log_file)) {
-        nbdkit_error("%s: %m", log_name);
-        return -1;
-    }
-    return 0;
-}
-
-static int replay(const char *row)
-{
-    return pcm_disk_replay(&disk, row);
-}
-
-/* The disk as the rows of the log left it. */
-static int resume(void)
-{
-    int fault = pcm_disk_resume(&disk);
-    if (fault != 0)
-        nbdkit_error("%s: the disk that it leaves can't be read: %s", log_name, strerror(fault));
-    return fault;
-}
-
-/* Plays the rows of the log. What is behind the last one's end is taken away; but where its first rows are played alone, it stays as it is. */
-static int play_log(void)
-{
-    off_t at;
-    if (each_row(replay, &at) != 0)
-        return -1;
-    if (parameter("log-rows")->is_given) {
-        fclose(log_file);
-        log_file = NULL;
-        return resume();
-    }
-    if (ftruncate(fileno(log_file), at) != 0 || fseeko(log_file, 0, SEEK_END) != 0) {
-        nbdkit_error("%s: %m", log_name);
-        return -1;
-    }
-    disk.pcm.log = keep_row;
-    if (at == 0) {
-        if (write_args() != 0)
-            return -1;
-        if (fputs(HEADER, log_file) < 0)
-            log_failed = errno;
-    } else if (resume() != 0) {
-        return -1;
-    }
-    return flush_log(0) == 0 ? 0 : -1;
-}
-
 /* ---- The server's life */
 
 static int plugin_config_complete(void)
@@ -331,15 +144,13 @@ static int plugin_config_complete(void)
                                    (uint32_t)strtoul(parameter("atomic")->text, NULL, 10), (uint32_t)value_of("straight"), value_of("seed")};
     shape = given;
     cuts = value_of("cuts");
-    cut_state = request_state = value_of("cut-seed");
     cut_requests = value_of("cut-requests");
     cache.most = (uint32_t)value_of("cache");
     logs_all = (int)value_of("log-reads");
-    cut_ticks = parameter("cut-ticks")->text;
     tick_ns = value_of("tick-ns");
     row_ticks = value_of("row-ticks");
     rides = (int)value_of("on-cut");
-    return check_together() == 0 && check_cut_ticks(cut_ticks) == 0 ? check_files() : -1;
+    return check_together() == 0 && check_cut_ticks(parameter("cut-ticks")->text) == 0 ? check_files() : -1;
 }
 
 /* The module's options beside the shape, as words. */
@@ -359,10 +170,10 @@ static const char *const *option_words(void)
 }
 
 /* Starts the program. */
-static int start(void)
+static int start(struct pcm_disk *it, pcm_disk__opener opener)
 {
     const char *words[] = {program, "stream", NULL};
-    int fault = pcm_disk_open(&disk, words, &shape, option_words());
+    int fault = pcm_disk__open_by(it, words, &shape, option_words(), opener);
     if (fault == 0)
         return 0;
     nbdkit_error("%s stream: %s", program, fault == EPIPE ? "it has ended: it isn't the program of streams, or not one of such modules"
@@ -375,7 +186,7 @@ static int start(void)
 static int plugin_get_ready(void)
 {
     off_t end;
-    int fault = start();
+    int fault = start(&disk, pcm_open_apart);
     pcm_disk_close(&disk);
     if (fault == 0 && log_name != NULL)
         fault = open_log() == 0 ? each_row(look_at, &end) : -1;
@@ -383,33 +194,6 @@ static int plugin_get_ready(void)
         fclose(log_file);
     log_file = NULL;
     return fault;
-}
-
-/* The program that serves is started here, behind that fork. */
-static int plugin_after_fork(void)
-{
-    if ((log_name != NULL && open_log() != 0) || start() != 0)
-        return -1;
-    if (log_name != NULL && play_log() != 0)
-        return -1;
-    disk.rides = rides;
-    disk.row_ticks = (uint32_t)row_ticks;
-    disk.endures = value_of("lo");
-    disk.order = value_of("tear") != 0 ? pcm_disk__mixed(value_of("cut-seed")) | 1 : 0;
-    requests_due[0] = cut_requests != 0 ? 1 + drawn(&request_state, 2 * cut_requests) : 0;
-    if (pcm_cache_open(&cache, &disk, (uint32_t)value_of("cache"), value_of("cut-seed")) != 0) {
-        nbdkit_error("cache=%llu: there is no memory for it", (unsigned long long)value_of("cache"));
-        return -1;
-    }
-    if (parameter("size")->is_given)
-        fprintf(stderr, "size: regions=%lu lines=%lu, so %llu bytes\n", (unsigned long)shape.regions, (unsigned long)shape.lines,
-                (unsigned long long)pcm_disk_size(&disk));
-    do /* (those of an earlier life are over) */
-        next_cut();
-    while (due <= disk.now && cuts == 0);
-    clock_gettime(CLOCK_MONOTONIC, &begun);
-    begun.tv_sec -= (time_t)(disk.now * tick_ns / 1000000000);
-    return 0;
 }
 
 static int put_counts(char *to, size_t size)
@@ -432,12 +216,13 @@ static void end_at_once(void)
     nbdkit_shutdown();
 }
 
-/* Behind the last connection. */
-static void plugin_cleanup(void)
+/* The disk's end: its program's, its report and its log. */
+static void end_disk(void)
 {
     char text[CONTROL_SIZE];
     FILE *report;
     int status = pcm_disk_close(&disk);
+    pcm_close(&stem.pcm);
     put_counts(text, sizeof text);
     if (report_name != NULL) {
         report = fopen(report_name, "we");
@@ -450,9 +235,116 @@ static void plugin_cleanup(void)
         nbdkit_error("%s: %m", log_name);
 }
 
+/* Whether the program has closed what it answers by, as it has where it was killed. */
+static int is_gone(void)
+{
+    struct pollfd answers = {disk.pcm.from, 0, 0};
+    return disk.pcm.from <= 0 || poll(&answers, 1, 0) == 1;
+}
+
+/* Sleeps until a byte wakes the watcher, `watched` is closed, or so many milliseconds are over; whether it is wanted no more. */
+static int sleep_beside(int watched, int milliseconds)
+{
+    struct pollfd both[2] = {{watcher_ends[0], POLLIN, 0}, {watched, 0, 0}};
+    char byte = 0;
+    return poll(both, 2, milliseconds) > 0 && both[0].revents != 0 && read(watcher_ends[0], &byte, 1) == 1 && byte == 'q';
+}
+
+/* Notices that the program has ended. A server waits for its connections, of which some may ask for nothing any more: they have a second. */
+static void *watch(void *unused)
+{
+    int watched = -1, is_over = 0;
+    (void)unused;
+    while (!is_over) {
+        if (sleep_beside(watched, -1))
+            return NULL;
+        pthread_mutex_lock(&acting);
+        watched = disk.pcm.from;
+        is_over = is_gone();
+        if (is_over)
+            end_at_once();
+        pthread_mutex_unlock(&acting);
+    }
+    if (sleep_beside(-1, 1000))
+        return NULL;
+    pthread_mutex_lock(&acting);
+    end_disk();
+    _exit(EXIT_FAILURE);
+}
+
+/* Another program is the disk's, or none: the watcher hears of it. */
+static void wake_watcher(char why)
+{
+    while (write(watcher_ends[1], &why, 1) < 0 && errno == EINTR)
+        ;
+}
+
+/* Signals are the server's own. */
+static int start_watcher(void)
+{
+    sigset_t all, before;
+    if (pcm__pair(watcher_ends, 1) != 0) {
+        nbdkit_error("%m");
+        return -1;
+    }
+    wake_watcher('r');
+    sigfillset(&all);
+    pthread_sigmask(SIG_SETMASK, &all, &before);
+    int fault = pthread_create(&watcher, NULL, watch, NULL);
+    pthread_sigmask(SIG_SETMASK, &before, NULL);
+    if (fault == 0)
+        return 0;
+    nbdkit_error("%s", strerror(fault));
+    return -1;
+}
+
+/* The disk is there: it takes requests from now on, and its cuts are those that the parameters say. */
+static int begin_life(void)
+{
+    disk.rides = rides;
+    disk.row_ticks = (uint32_t)row_ticks;
+    disk.endures = value_of("lo");
+    disk.order = value_of("tear") != 0 ? pcm_disk__mixed(value_of("cut-seed")) | 1 : 0;
+    begin_cuts();
+    clock_gettime(CLOCK_MONOTONIC, &begun);
+    begun.tv_sec -= (time_t)(disk.now * tick_ns / 1000000000);
+    pcm_cache_close(&cache);
+    if (pcm_cache_open(&cache, &disk, (uint32_t)value_of("cache"), value_of("cut-seed")) == 0)
+        return 0;
+    nbdkit_error("cache=%llu: there is no memory for it", (unsigned long long)value_of("cache"));
+    return ENOMEM;
+}
+
+/* The program that serves is started here, behind that fork. */
+static int plugin_after_fork(void)
+{
+    if (log_name != NULL && open_log() != 0)
+        return -1;
+    if (library != NULL ? start(&stem, open_copied) != 0 || begin_rows() != 0 : start(&disk, pcm_open_apart) != 0 || (log_name != NULL && play_log() != 0))
+        return -1;
+    if (parameter("size")->is_given)
+        fprintf(stderr, "size: regions=%lu lines=%lu, so %llu bytes\n", (unsigned long)shape.regions, (unsigned long)shape.lines,
+                (unsigned long long)pcm_disk_size(&disk));
+    return begin_life() == 0 ? start_watcher() : -1;
+}
+
+/* Behind the last connection. */
+static void plugin_cleanup(void)
+{
+    if (watcher_ends[1] >= 0) {
+        wake_watcher('q');
+        pthread_join(watcher, NULL);
+    }
+    end_disk();
+}
+
 static void plugin_unload(void)
 {
+    for (int i = 0; i < 2; i++)
+        if (watcher_ends[i] >= 0)
+            close(watcher_ends[i]);
     pcm_cache_close(&cache);
+    free(library);
     free(program);
     free(log_name);
     free(args_name);
@@ -478,6 +370,7 @@ static void *plugin_open(int readonly)
     it->is_control = *name != 0;
     it->is_told = 0;
     it->power = disk.count[PCM_CUT];
+    it->lives = lives;
     return it;
 }
 
@@ -577,10 +470,10 @@ static int act(const struct request *of)
                                 : pcm_cache_flush(&cache);
 }
 
-/* Whether the power was cut since the connection came. */
+/* Whether the power was cut since the connection came, or the disk is another one. */
 static int is_off(const struct connection *it)
 {
-    return it->power != disk.count[PCM_CUT] && !rides;
+    return it->lives != lives || (it->power != disk.count[PCM_CUT] && !rides);
 }
 
 static int serve(struct connection *it, const struct request *of)
@@ -600,19 +493,28 @@ static int serve(struct connection *it, const struct request *of)
     return fault == 0 ? 0 : failed(it, fault, words[of->is], of->size, of->offset);
 }
 
+/* What control tells, lines of text alone. */
+static void tell(char *to, uint32_t size, uint64_t offset)
+{
+    char text[CONTROL_SIZE];
+    int end = put_counts(text, sizeof text);
+    memset(text + end, '\n', sizeof text - (size_t)end);
+    memcpy(to, text + offset, size);
+}
+
 static int plugin_pread(void *handle, void *to, uint32_t size, uint64_t offset, uint32_t flags)
 {
     struct connection *it = handle;
-    (void)flags;
-    if (it->is_control) {
-        char text[CONTROL_SIZE];
-        int end = put_counts(text, sizeof text);
-        memset(text + end, '\n', sizeof text - (size_t)end);
-        memcpy(to, text + offset, size);
-        return 0;
-    }
     const struct request read = {IS_READ, to, NULL, size, offset, 0};
-    return serve(it, &read);
+    int answer = 0;
+    (void)flags;
+    pthread_mutex_lock(&acting);
+    if (it->is_control)
+        tell(to, size, offset);
+    else
+        answer = serve(it, &read);
+    pthread_mutex_unlock(&acting);
+    return answer;
 }
 
 /* Time passes up to a tick, through each cut that is due by then. */
@@ -634,7 +536,7 @@ static int wait_until(uint64_t tick)
 
 /* A command: its word, and its number, where it has one. */
 struct command {
-    enum { IS_NONE, IS_CUT, IS_CUT_OF_REQUESTS, IS_WAIT } is;
+    enum { IS_NONE, IS_CUT, IS_CUT_OF_REQUESTS, IS_WAIT, IS_ROW, IS_FROM } is;
     uint64_t number;
 };
 
@@ -653,8 +555,28 @@ static struct command read_command(const char *from, uint32_t size)
         it.is = IS_CUT;
     } else if (strncmp(text, "wait ", 5) == 0 && is_number(text + 5, &it.number)) {
         it.is = IS_WAIT;
+    } else if (strncmp(text, "row ", 4) == 0 && is_number(text + 4, &it.number)) {
+        it.is = IS_ROW;
+    } else if (strncmp(text, "from ", 5) == 0 && is_number(text + 5, &it.number)) {
+        it.is = IS_FROM;
     }
     return it;
+}
+
+/* The disk goes to another row of its log; or the stem does. */
+static int go(const struct command *it)
+{
+    if (library == NULL || it->number < base.rows || it->number > all_rows) {
+        nbdkit_error("control takes 'row N' and 'from N' with copies, N from the row that came with the last 'from' to the log's last");
+        return EINVAL;
+    }
+    if (it->is == IS_FROM)
+        return go_from_row(it->number);
+    int fault = go_to_row(it->number);
+    if (fault == 0)
+        fault = begin_life();
+    wake_watcher('r');
+    return fault;
 }
 
 /* A word for the power switch or the clock. */
@@ -662,8 +584,10 @@ static int command(const char *from, uint32_t size, uint64_t offset)
 {
     const struct command it = read_command(from, size);
     int fault = 0;
+    if (offset == 0 && (it.is == IS_ROW || it.is == IS_FROM))
+        return go(&it);
     if (offset != 0 || it.is == IS_NONE || it.number > PCM_LAST_TICK - (it.is == IS_CUT_OF_REQUESTS ? 0 : disk.now)) {
-        nbdkit_error("control takes 'cut', 'cut N', 'cut N requests' and 'wait N', N ticks up to 2^40 in all");
+        nbdkit_error("control takes 'cut', 'cut N', 'cut N requests' and 'wait N', N ticks up to 2^40 in all, 'row N' and 'from N'");
         return EINVAL;
     }
     if (it.is == IS_CUT_OF_REQUESTS) {
@@ -681,23 +605,37 @@ static int command(const char *from, uint32_t size, uint64_t offset)
     return fault;
 }
 
+/* The same by a connection to control: 0, or -1. */
+static int control(struct connection *it, const struct request *of)
+{
+    int fault = of->is == IS_WRITE ? command(of->from, of->size, of->offset) : 0;
+    if (fault != EINVAL)
+        return fault == 0 ? 0 : failed(it, fault, "command", of->size, of->offset);
+    nbdkit_set_error(EINVAL);
+    return -1;
+}
+
+/* A request that writes or flushes. */
+static int change(struct connection *it, const struct request *of)
+{
+    pthread_mutex_lock(&acting);
+    int answer = it->is_control ? control(it, of) : serve(it, of);
+    pthread_mutex_unlock(&acting);
+    return answer;
+}
+
 static int plugin_pwrite(void *handle, const void *from, uint32_t size, uint64_t offset, uint32_t flags)
 {
-    struct connection *it = handle;
     const struct request write = {IS_WRITE, NULL, from, size, offset, (flags & NBDKIT_FLAG_FUA) != 0};
-    if (!it->is_control)
-        return serve(it, &write);
-    int fault = command(from, size, offset);
-    return fault == 0 ? 0 : fault == EINVAL ? (nbdkit_set_error(EINVAL), -1) : failed(it, fault, "command", size, offset);
+    return change(handle, &write);
 }
 
 /* The module has nothing to flush; its log has, and the cache. */
 static int plugin_flush(void *handle, uint32_t flags)
 {
-    struct connection *it = handle;
     const struct request flush = {IS_FLUSH, NULL, NULL, 0, 0, 0};
     (void)flags;
-    return it->is_control ? 0 : serve(it, &flush);
+    return change(handle, &flush);
 }
 
 #define HELP \
@@ -705,6 +643,7 @@ static int plugin_flush(void *handle, uint32_t flags)
     "log=FILE           a trace of all rows; where it has some, the disk is what they leave. FILE.args has its options\n" \
     "log-reads=all      also reads of banks at rest, which change nothing (needed: not these)\n" \
     "log-rows=N         the disk as the first N rows of the log left it; FILE stays as it is\n" \
+    "copies=LIBRARY     pcm_copy.so: control then takes `row N`, the disk as that row of the log left it, and `from N`: none before N is asked for\n" \
     "report=FILE        counts of all outcomes, written at the end\n" \
     "banks=A regions=B lines=N line=64|128 spares=S seed=X write-queue=W read-queue=R psi=N policy=pause|plain|cancel\n" \
     "registers=guarded|array read-ticks=T iter-ticks=T lo=N hi=N misses=N end=drain|off\n" \

@@ -738,9 +738,12 @@ static inline int pcm_disk__shape(struct pcm_disk *disk, const struct pcm_disk_s
     return 0;
 }
 
+/* What starts a program by its words, as pcm_open_apart does. */
+typedef enum pcm_result (*pcm_disk__opener)(struct pcm *pcm, const char *const words[]);
+
 /* Starts the program with its words and the shape's, and learns whether its module is such a one. */
 static inline int pcm_disk__start(struct pcm_disk *disk, const char *const program[], const struct pcm_disk_shape *shape,
-                                  const char *const options[])
+                                  const char *const options[], pcm_disk__opener opener)
 {
     const uint64_t numbers[] = {shape->banks,       shape->regions,    shape->lines,      shape->line,       shape->spares,
                                 shape->write_queue, shape->read_queue, shape->read_ticks, shape->iter_ticks, shape->seed};
@@ -767,15 +770,15 @@ static inline int pcm_disk__start(struct pcm_disk *disk, const char *const progr
         words[n++] = *options;
     }
     words[n++] = "--tell=shape";
-    enum pcm_result opened = pcm_open_apart(&disk->pcm, words);
+    enum pcm_result opened = opener(&disk->pcm, words);
     int fault = opened == PCM_REFUSED ? EINVAL : pcm_disk__fault(opened);
     if (fault == 0)
         fault = pcm_disk__settle(disk, 0); /* (words that are refused show here, and the shape has come then, where it comes) */
     return fault != 0 ? fault : disk->pcm.shape.version == 0 ? EINVAL : pcm_disk__fault(pcm_learn(&disk->pcm, &wanted));
 }
 
-static inline int pcm_disk_open(struct pcm_disk *disk, const char *const program[], const struct pcm_disk_shape *shape,
-                                const char *const options[])
+static inline int pcm_disk__open_by(struct pcm_disk *disk, const char *const program[], const struct pcm_disk_shape *shape,
+                                    const char *const options[], pcm_disk__opener opener)
 {
     memset(disk, 0, offsetof(struct pcm_disk, pcm));
     disk->pcm.to = disk->pcm.from = -1;
@@ -784,12 +787,18 @@ static inline int pcm_disk_open(struct pcm_disk *disk, const char *const program
     disk->row_ticks = 1;
     int fault = pcm_disk__shape(disk, shape);
     if (fault == 0)
-        fault = pcm_disk__start(disk, program, shape, options);
+        fault = pcm_disk__start(disk, program, shape, options, opener);
     if (fault == EINVAL) { /* (a disk of another shape has no bytes, as one that was never opened) */
         memset(&disk->shape, 0, sizeof disk->shape);
         disk->sectors = 0;
     }
     return fault;
+}
+
+static inline int pcm_disk_open(struct pcm_disk *disk, const char *const program[], const struct pcm_disk_shape *shape,
+                                const char *const options[])
+{
+    return pcm_disk__open_by(disk, program, shape, options, pcm_open_apart);
 }
 
 static inline int pcm_disk_close(struct pcm_disk *disk)

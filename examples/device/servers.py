@@ -84,11 +84,17 @@ def options_of(log):
     return module, dict(zip(disk[::2], disk[1::2]))
 
 
+def built(folder):
+    """The plugin of this checkout, built into a folder."""
+    run("make", "-s", "-C", TOP / "c", f"OUT={folder}")
+    return pathlib.Path(folder, "nbdkit-pcm-plugin.so")
+
+
 class Server:
     """It lives in a folder of its own, which goes away with the script, as the server does."""
 
-    def __init__(self, pcm, parameters, plugin=None, log=None):
-        """`log`: a file of the caller's, or True for one in the server's folder."""
+    def __init__(self, pcm, parameters, plugin=None, log=None, copies=False):
+        """`log`: a file of the caller's, or True for one in the server's folder. `copies`: it goes from row to row of its log."""
         need({"nbdkit": "nbdkit", "make": "make", "gcc": "gcc"})
         self.dir = pathlib.Path(tempfile.mkdtemp(prefix="pcm-device-"))
         self.process, self.open = None, []
@@ -96,8 +102,10 @@ class Server:
         for number in (signal.SIGTERM, signal.SIGHUP):
             signal.signal(number, lambda *_: sys.exit(1))
         if plugin is None:
-            run("make", "-s", "-C", TOP / "c", f"OUT={self.dir}")
-            plugin = self.dir / "nbdkit-pcm-plugin.so"
+            plugin = built(self.dir)
+        if copies:
+            run("make", "-s", "-C", TOP / "c", "copies", f"OUT={self.dir}")
+            parameters = [*parameters, f"copies={self.dir / 'pcm_copy.so'}"]
         self.sock, self.report, ready = self.dir / "sock", self.dir / "report", self.dir / "pid"
         words = ["nbdkit", "-f", "-U", self.sock, "-P", ready, plugin, f"pcm={pcm if '/' not in str(pcm) else os.path.abspath(pcm)}", *parameters]
         if log:

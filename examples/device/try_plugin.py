@@ -50,12 +50,12 @@ def said():
     return STARTED[-1].said()
 
 
-def fails(call, number):
-    """Whether a request is answered with an error."""
+def fails(call, *numbers):
+    """Whether a request is answered with one of these errors."""
     try:
         call()
     except nbd.Error as error:
-        return error.errno == errno.errorcode[number]
+        return error.errno in [errno.errorcode[it] for it in numbers]
     return False
 
 
@@ -272,6 +272,52 @@ def first_rows_of_a_log():
             disk.pread(512, 0)
         it.end()
     check(log_of(idle)[2] == ["W", "R"], f"reads of banks at rest are left out: {log_of(idle)[2]}")
+
+
+def row_after_row_of_a_log():
+    """One server goes from row to row, to and fro, as servers of each row alone would be."""
+    log, library = ROOM / "life.csv", ROOM / "pcm_copy.so"
+    servers.run("make", "-s", "-C", servers.TOP / "c", "copies", f"OUT={ROOM}")
+    shape = [*SMALL, "misses=2", "policy=cancel", "registers=array", "lo=300", "hi=900"]
+    with server(*shape, f"log={log}") as it:
+        disk, draw = it.connect(), random.Random(9)
+        for number in range(60):
+            disk.pwrite(draw.randbytes(draw.randrange(1, 600)), draw.randrange(disk.get_size() - 600))
+            if number % 9 == 8:
+                it.control("cut")
+                disk = it.connect()
+        it.end()
+    before, rows = log.read_bytes(), len(log_of(log)[2])
+
+    def alone(row):
+        with server(*shape, f"log={log}", f"log-rows={row}") as one:
+            disk = one.connect()
+            return disk.pread(disk.get_size(), 0), one.end()
+
+    with server(*shape, f"log={log}", "log-rows=10", f"copies={library}") as it:
+        old = it.connect()
+        size, right = old.get_size(), old.pread(old.get_size(), 0) == alone(10)[0]
+        control, counts = it.connect("control"), ("tick", "rows", "stored", "merged", "read", "cut")
+        for row in (rows, rows // 2, 10, rows // 3, rows // 2 + 1, 11, rows):
+            told, (bytes_alone, report) = it.control(f"row {row}"), alone(row)
+            new = it.connect()
+            right &= new.pread(size, 0) == bytes_alone and told["cut"] == report["cut"] and told["read_only"] == report["read_only"]
+            check(fails(lambda: old.pread(1, 0), errno.EIO), "connections to the disk before are over") # noqa: B023
+            new.pwrite(b"of no other row", 5) # (nobody else has it)
+            old = new
+        it.control(f"from {rows // 2}")
+        for word in (f"row {rows // 2 - 1}", f"from {rows // 2 - 1}", f"row {rows + 1}", "row", "row x", "from"):
+            check(fails(lambda: control.pwrite(word.encode(), 0), errno.EINVAL), f"{word} is none of its words") # noqa: B023
+        it.control(f"row {rows // 2 + 3}")
+        right &= it.connect().pread(size, 0) == alone(rows // 2 + 3)[0]
+        check(right, "each is the disk as that row left it")
+        check(all(it in told for it in counts) and it.end()["status"] == 0, "and the last one ends as a disk does")
+    check(log.read_bytes() == before, "the log stays as it is")
+    with server(*SMALL) as it:
+        control = it.connect("control")
+        check(fails(lambda: control.pwrite(b"row 1", 0), errno.EINVAL) and "with copies" in said(), "row and from are words of such a server alone")
+    refused("give log-rows", *SMALL, f"log={log}", f"copies={library}")
+    refused("No such file", *shape, f"log={log}", "log-rows=1", "copies=/nowhere/pcm_copy.so")
 
 
 def clients_ride_through(*parameters):
@@ -523,11 +569,41 @@ def a_program_that_ends():
         disk.pwrite(b"x" * 512, 0)
         for child in children(it.process.pid):
             os.kill(child, signal.SIGKILL)
-        check(fails(lambda: disk.pwrite(b"y" * 512, 0), errno.EIO), "its requests fail")
+        check(fails(lambda: disk.pwrite(b"y" * 512, 0), errno.EIO, errno.ESHUTDOWN), "its requests fail")
         it.open.clear()
         check(it.process.wait(30) == 1, "its server's status isn't 0")
         check("has ended" in said() and "so does the server" in said(), f"and it is said why: {said()}")
         check(it.end()["status"] == -1, "so says the report")
+
+
+def a_program_that_is_killed():
+    """Its server ends at once where no client is there, and soon where one asks for nothing; so does one that goes from row to row."""
+    log, library = ROOM / "killed.csv", ROOM / "pcm_copy.so"
+    with server(*SMALL, f"log={log}") as it:
+        it.connect().pwrite(b"x" * 512, 0)
+        it.end()
+    for name, parameters, clients in (("no client", [], 0), ("idle clients", [], 2), ("with a log", [f"log={log}"], 1),
+                                      ("a copy", [f"log={log}", "log-rows=3", f"copies={library}"], 1)):
+        with server(*SMALL, *parameters) as it:
+            it.must_run()
+            held = [it.connect() for _ in range(clients)]
+            if name == "a copy":
+                it.control("row 8")
+            begun = time.monotonic()
+            for child in [grandchild for child in children(it.process.pid) for grandchild in children(child)] or children(it.process.pid):
+                os.kill(child, signal.SIGKILL)
+            try:
+                status = it.process.wait(10)
+            except subprocess.TimeoutExpired:
+                status = None
+            check(status == 1, f"a killed program, {name}: its server's status is {status}, {time.monotonic() - begun:.1f} s later")
+            check(said().count("has ended") == 1 and "so does the server" in said(), f"and it is said why: {said()}")
+            check(servers.numbers(it.report.read_text())["status"] == -1, "so says the report")
+            held.clear()
+            it.open.clear()
+    with server(*SMALL, f"log={log}") as it:
+        check(it.connect().pread(512, 0) == b"x" * 512, "a server on its log goes on from there")
+        check(it.end()["status"] == 0, "and ends by itself")
 
 
 def a_worn_disk_stays_so(log):
@@ -592,6 +668,7 @@ def main():
         a_cache_loses_what_is_not_flushed()
         sizes_and_suffixes()
         first_rows_of_a_log()
+        row_after_row_of_a_log()
         cuts_are_drawn_or_named()
         cuts_of_control_come_beside_the_others()
         if HAS_PROGRAM:
@@ -605,6 +682,7 @@ def main():
         wrong_parameters()
         if HAS_PROGRAM:
             a_program_that_ends()
+            a_program_that_is_killed()
         a_module_that_wears_out()
         a_worn_disk_stays_so(ROOM / "worn.csv")
         real_time()
