@@ -5,7 +5,9 @@
 
 #include "nbdkit_cuts.h"
 
+#include <fcntl.h>
 #include <sys/stat.h>
+#include <unistd.h>
 
 #define HEADER "tick,op,arg,data\n"
 

@@ -12,9 +12,9 @@
 #define NBDKIT_API_VERSION 2
 #include "nbdkit_rows.h"
 
-#include <fcntl.h>
+#include <poll.h>
 #include <pthread.h>
-#include <sys/stat.h>
+#include <signal.h>
 #include <time.h>
 #include <unistd.h>
 
@@ -235,6 +235,18 @@ static void end_disk(void)
         nbdkit_error("%s: %m", log_name);
 }
 
+#ifdef PCM_STREAM_LIBRARY
+/* A module in this process ends with it. */
+static void wake_watcher(char why)
+{
+    (void)why;
+}
+
+static int start_watcher(void)
+{
+    return 0;
+}
+#else
 /* Whether the program has closed what it answers by, as it has where it was killed. */
 static int is_gone(void)
 {
@@ -297,6 +309,7 @@ static int start_watcher(void)
     nbdkit_error("%s", strerror(fault));
     return -1;
 }
+#endif
 
 /* The disk is there: it takes requests from now on, and its cuts are those that the parameters say. */
 static int begin_life(void)
