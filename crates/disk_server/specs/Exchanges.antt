@@ -81,10 +81,15 @@ abbrev pub reply_of : ℕ → Result Served Failure → List ℕ
 reply_of cookie (Ok s) = reply_bytes (failure_of s.request s.answer) cookie ++ bytes_of s.answer
 reply_of cookie (Err failure) = reply_bytes (Some failure) cookie
 
--- it became this: served, where there is such a request; else the client is told so; only of a write may want of memory come first
+-- what a request brings: a request to the disk, where there is such a one, else why the disk isn't asked; of a write alone memory may lack
+abbrev pub Brings : RequestHeader → List ℕ → Result Request Failure → Type 0
+Brings h bytes (Ok request) = (is_request h ≡ true) × AsksFor h bytes request
+Brings h bytes (Err failure) = ((failure ≡ fails.Invalid) × (is_request h ≡ false)) ⊎ ((failure ≡ fails.NoMemory) × (h.command ≡ asks.Write))
+
+-- what becomes of it
 abbrev pub Becomes : OnCut → RequestHeader → List ℕ → Result Served Failure → Type 0
-Becomes mode h bytes (Ok s) = (is_request h ≡ true) × AsksFor h bytes s.request × Rides mode s
-Becomes mode h bytes (Err failure) = ((failure ≡ fails.Invalid) × (is_request h ≡ false)) ⊎ ((failure ≡ fails.NoMemory) × (h.command ≡ asks.Write))
+Becomes mode h bytes (Ok s) = Brings h bytes (Ok s.request) × Rides mode s
+Becomes mode h bytes (Err failure) = Brings h bytes (Err failure)
 
 pub record IsExchange (mode : OnCut) (x : Exchange) : Type 0 where
   pub header : IsHeader x.header

@@ -1,0 +1,22 @@
+-- A request that came is answered.
+use Rattle.std.specs.{Io.KnownBytes.Appends, Prelude.{ℕ, List, Option, Result, Ok, Err}}
+use Rattle.pcm_io.specs.{Giving.AppendsPrefix, declared.fault.WriteFault.WriteFault}
+use Rattle.atomic_sectors.specs.{Lines.Write, Stops.RoseBy, declared.layout.Layout.Layout}
+use Rattle.disk_rules.specs.{declared.Answer.Answer, declared.Request.Request}
+use Rattle.disk_bytes.specs.Serving.{IsServed}
+use Rattle.nbd_frames.specs.{declared.reply.Failure.Failure, declared.request.RequestHeader.RequestHeader}
+use Rattle.disk_server.specs.{Exchanges.{Becomes, Brings, Served, asked_behind, reply_of, stops_behind}, declared.answering.OnCut.OnCut}
+
+-- this was written, or some first bytes of it where writing failed
+abbrev pub WritesOr : Result (Unit {0}) WriteFault → Option (List ℕ) → Option (List ℕ) → List ℕ → Type 0
+WritesOr (Ok done) was now bytes = Appends was now bytes
+WritesOr (Err fault) was now bytes = AppendsPrefix was now bytes
+
+-- this became of it, and the client was told so
+pub record IsAnswered (n : ℕ) (layout : Layout) (mode : OnCut) (h : RequestHeader) (request : Result Request Failure) (made_was made_now : List Write) (stops_was stops_now : ℕ)
+    (written_was written_now : Option (List ℕ)) (result : Result (Unit {0}) WriteFault) : Type 0 where
+  pub became : Result Served Failure
+  pub becomes : (bytes : List ℕ) → Brings h bytes request → Becomes mode h bytes became
+  pub answers : (earlier : List (Request × Answer)) → IsServed n layout earlier made_was → IsServed n layout (asked_behind became earlier) made_now
+  pub stops : RoseBy (stops_behind became 0) stops_was stops_now
+  pub writes : WritesOr result written_was written_now (reply_of h.cookie became)
