@@ -1,0 +1,5 @@
+mod Reading
+mod Asking
+mod Answering
+mod Messages
+mod Sessions
