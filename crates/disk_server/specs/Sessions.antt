@@ -88,4 +88,3 @@ module _ (n : ℕ) (layout : Layout) where
 
     abbrev pub StopsBy : Ended → Type 0
     StopsBy ended = IsUnanswered ended ⊎ IsWithout ended
-

@@ -48,7 +48,5 @@ pub fn reply(failure: Option<Failure>, cookie: u64) -> [u8; 16]
 {
     let [a, b, c, d] = error_number(failure).to_be_bytes();
     let [e, f, g, h, i, j, k, l] = cookie.to_be_bytes();
-    [
-        0x67, 0x44, 0x66, 0x98, a, b, c, d, e, f, g, h, i, j, k, l,
-    ]
+    [0x67, 0x44, 0x66, 0x98, a, b, c, d, e, f, g, h, i, j, k, l]
 }
