@@ -52,7 +52,6 @@ pub fn serve_client<
         → IsServed B disk.old.layout earlier (writes_of lines.old.puts)
         → IsDiskKept lines.new.module_ (A.state lines.new.array) lines.new.heard disk.old.layout
         (asked session.messages earlier))
-        // from a new module on
         × (lines.old.puts ≡ []
         → IsDiskKept lines.new.module_ (A.state lines.new.array) lines.new.heard disk.old.layout
         (asked session.messages [])) }

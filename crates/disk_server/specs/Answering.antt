@@ -4,7 +4,7 @@ use Rattle.pcm_io.specs.{Giving.AppendsPrefix, declared.fault.WriteFault.WriteFa
 use Rattle.atomic_sectors.specs.{Lines.Write, Stops.RoseBy, declared.layout.Layout.Layout}
 use Rattle.disk_rules.specs.{declared.Answer.Answer, declared.Request.Request}
 use Rattle.disk_bytes.specs.Serving.{IsServed}
-use Rattle.nbd_frames.specs.{declared.reply.Failure.Failure, declared.request.RequestHeader.RequestHeader}
+use Rattle.nbd_frames.specs.{declared.replies.Failure.Failure, declared.request.RequestHeader.RequestHeader}
 use Rattle.disk_server.specs.{Exchanges.{Becomes, Brings, Served, asked_behind, reply_of, stops_behind}, declared.answering.OnCut.OnCut}
 
 -- this was written, or some first bytes of it where writing failed

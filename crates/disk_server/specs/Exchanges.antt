@@ -5,9 +5,9 @@ use Rattle.disk_rules.specs.{declared.Answer.Answer, declared.Request.Request, d
 use Rattle.disk_rules.specs.declared.Answer.TheVariants as says
 use Rattle.disk_rules.specs.declared.Refusal.TheVariants as refusal
 use Rattle.disk_bytes.specs.Serving.{stops_of}
-use Rattle.nbd_frames.specs.{Requests.{IsHeader, reply_bytes, request_bytes}, declared.reply.Failure.Failure, declared.request.Command.Command, declared.request.RequestHeader.RequestHeader}
+use Rattle.nbd_frames.specs.{Requests.{IsHeader, reply_bytes, request_bytes}, declared.replies.Failure.Failure, declared.request.Command.Command, declared.request.RequestHeader.RequestHeader}
 use Rattle.nbd_frames.specs.declared.request.Command.TheVariants as asks
-use Rattle.nbd_frames.specs.declared.reply.Failure.TheVariants as fails
+use Rattle.nbd_frames.specs.declared.replies.Failure.TheVariants as fails
 use Rattle.disk_server.specs.{declared.answering.OnCut.OnCut, declared.answering.OnCut.TheVariants.{Ride, Drop}}
 
 -- what the disk was asked for: so many times a power cut stopped it, it was asked again, and this is the last answer

@@ -1,5 +1,5 @@
 -- An option that is read is spelled so, and none is spelled as another.
-use Rattle.std.proofs.Common.{◌≡◌, ℕ, ◌+◌, ◌^◌, ◌<◌, ◌≤◌, List, ◌++◌, length, take, drop, sym, ap, ◌∙◌, refl, arith}
+use Rattle.std.proofs.Common.{◌≡◌, ℕ, List, ◌++◌, length, take, drop, sym, ap, ◌∙◌, refl, arith}
 use Rattle.std.proofs.lemmas.{Bool.Decides.nat_tests, List.{length-drop, take_all}, Nat.from_be_bytes-to_be_bytes_4}
 use Rattle.nbd_frames.specs.{Numbers.{four, eight, four_at, eight_at}, Options.{IsOption, choice_code, choice_of, option_bytes, option_magic}}
 use Rattle.nbd_frames.specs.{declared.handshake.Choice.Choice, declared.handshake.OptionHeader.OptionHeader}
@@ -37,3 +37,14 @@ option_again h is =
 
 pub magic_again : (h : OptionHeader) → eight_at (option_bytes h) 0 ≡ option_magic
 magic_again h = refl
+
+-- what is read in 16 bytes, field by field, is the option that they are
+pub read_so : (bytes : List ℕ) (code size : ℕ) (choice : Choice) → choice ≡ choice_of code → code ≡ four_at bytes 8 → size ≡ four_at bytes 12
+    → (let read : OptionHeader = record { choice = choice; size = size } in read) ≡ option_of bytes
+read_so bytes code size choice p q r = same_option choice _ size _ (p ∙ ap choice_of q) r
+
+pub found_so : (bytes : List ℕ) (read : OptionHeader) → length bytes ≡ 16 → AreBytes bytes → eight_at bytes 0 ≡ option_magic → read ≡ option_of bytes → bytes ≡ option_bytes read
+found_so bytes read long are magic is = option_spelled bytes long are magic ∙ ap option_bytes (sym is)
+
+pub only_so : (bytes : List ℕ) (read header : OptionHeader) → read ≡ option_of bytes → IsOption header → bytes ≡ option_bytes header → read ≡ header
+only_so bytes read header is lawful spelled = is ∙ ap option_of spelled ∙ option_again header lawful

@@ -1,8 +1,8 @@
 -- A request that is read is spelled so, and none is spelled as another.
-use Rattle.std.proofs.Common.{◌≡◌, ◌≢◌, ℕ, zero, suc, ◌+◌, ◌^◌, ◌<◌, ◌≤◌, List, ◌++◌, length, take, drop, Option, Some, None, sym, ap, ◌∙◌, refl, arith}
+use Rattle.std.proofs.Common.{◌≡◌, ℕ, zero, suc, List, ◌++◌, length, take, drop, sym, ap, ◌∙◌, refl, arith}
 use Rattle.std.proofs.lemmas.{List.take_all, Nat.{from_be_bytes-to_be_bytes_2, from_be_bytes-to_be_bytes_4, from_be_bytes-to_be_bytes_8}}
 use Rattle.std.proofs.lemmas.List.{length-drop}
-use Rattle.nbd_frames.specs.{Numbers.{two, four, eight, two_at, four_at, eight_at}, Requests.{IsHeader, code_of, command_of, request_bytes, request_magic}}
+use Rattle.nbd_frames.specs.{Numbers.{two, four, two_at, four_at, eight_at}, Requests.{IsHeader, code_of, command_of, request_bytes, request_magic}}
 use Rattle.nbd_frames.specs.{declared.request.Command.Command, declared.request.RequestHeader.RequestHeader}
 use Rattle.nbd_frames.proofs.Spelling.{AreBytes, two_spelled, four_spelled, eight_spelled, parted}
 
@@ -58,3 +58,15 @@ request_again h is =
 -- its number in front
 pub magic_again : (h : RequestHeader) → four_at (request_bytes h) 0 ≡ request_magic
 magic_again h = refl
+
+-- what is read in 28 bytes, field by field, is the request that they are
+pub read_so : (bytes : List ℕ) (flags code cookie at size : ℕ) (command : Command) → flags ≡ two_at bytes 4 → command ≡ command_of code → code ≡ two_at bytes 6
+    → cookie ≡ eight_at bytes 8 → at ≡ eight_at bytes 16 → size ≡ four_at bytes 24
+    → (let read : RequestHeader = record { flags = flags; command = command; cookie = cookie; at = at; size = size } in read) ≡ request_of bytes
+read_so bytes flags code cookie at size command p q r s t u = same_header flags _ command _ cookie _ at _ size _ p (q ∙ ap command_of r) s t u
+
+pub found_so : (bytes : List ℕ) (read : RequestHeader) → length bytes ≡ 28 → AreBytes bytes → four_at bytes 0 ≡ request_magic → read ≡ request_of bytes → bytes ≡ request_bytes read
+found_so bytes read long are magic is = request_spelled bytes long are magic ∙ ap request_bytes (sym is)
+
+pub only_so : (bytes : List ℕ) (read header : RequestHeader) → read ≡ request_of bytes → IsHeader header → bytes ≡ request_bytes header → read ≡ header
+only_so bytes read header is lawful spelled = is ∙ ap request_of spelled ∙ request_again header lawful

@@ -1,5 +1,5 @@
 -- The bytes of the handshake: what a server says first, and the options that a client asks for.
-use Rattle.std.specs.Prelude.{◌≡◌, ℕ, zero, suc, ◌+◌, ◌*◌, ◌^◌, ◌<◌, ◌==◌, ◌&&◌, nat_le, nat_lt, Bool, true, false, if◌then◌else◌, List, [], ◌++◌, length, codes, replicate}
+use Rattle.std.specs.Prelude.{◌≡◌, ℕ, ◌+◌, ◌*◌, ◌^◌, ◌<◌, ◌==◌, ◌&&◌, nat_le, nat_lt, Bool, if◌then◌else◌, List, [], ◌++◌, length, codes, replicate}
 use Rattle.nbd_frames.specs.{Numbers.{two, four, eight, two_at, four_at}, declared.handshake.OptionHeader.OptionHeader, declared.handshake.Reply.Reply as Kind}
 use Rattle.nbd_frames.specs.declared.{handshake.Choice.Choice, handshake.Choice.TheVariants.{ExportName, Abort, Exports, Info, Go, Other}}
 use Rattle.nbd_frames.specs.declared.handshake.Reply.TheVariants as says

@@ -1,8 +1,8 @@
 -- The bytes of requests and replies, once the client and the server have agreed.
 use Rattle.std.specs.Prelude.{◌≡◌, ℕ, zero, suc, ◌^◌, ◌<◌, List, ◌++◌, Option, Some, None}
-use Rattle.nbd_frames.specs.{Numbers.{two, four, eight}, declared.request.RequestHeader.RequestHeader, declared.reply.Failure.Failure}
+use Rattle.nbd_frames.specs.{Numbers.{two, four, eight}, declared.request.RequestHeader.RequestHeader, declared.replies.Failure.Failure}
 use Rattle.nbd_frames.specs.declared.{request.Command.Command, request.Command.TheVariants.{Read, Write, Disconnect, Flush, Other}}
-use Rattle.nbd_frames.specs.declared.reply.Failure.TheVariants as why
+use Rattle.nbd_frames.specs.declared.replies.Failure.TheVariants as why
 
 -- a command's number
 abbrev pub code_of : Command → ℕ

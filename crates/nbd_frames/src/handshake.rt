@@ -1,5 +1,5 @@
 // The handshake: what is said before the first request.
-ghost use Rattle.std.specs.Prelude.{◌≡◌, ◌≢◌, ◌++◌, take, Some, IfSome, OnNone};
+ghost use Rattle.std.specs.Prelude.{◌≡◌, ◌≢◌, ◌++◌, take, Some, IfSome, IfNone};
 ghost use Rattle.nbd_frames.specs.Numbers.{two, four, eight};
 ghost use Rattle.nbd_frames.specs.Options.{IsOption, asks_info, choice_code, choice_of, export_bytes, greeting, most_data, option_bytes, option_magic, reply_code, reply_front};
 ghost use Rattle.nbd_frames.specs.declared.handshake.OptionHeader.{OptionHeader};
@@ -117,7 +117,7 @@ pub fn read_option(bytes: &[u8; 16]) -> Option<OptionHeader>
     ensures lawful { IfSome result (λ header. IsOption header) }
     ensures only { (header : OptionHeader) → IsOption header → bytes.now ≡ option_bytes header
         → result ≡ Some header }
-    ensures none { OnNone result (take 8 bytes.now ≢ eight option_magic) }
+    ensures none { IfNone result (take 8 bytes.now ≢ eight option_magic) }
 {
     if eight_at(bytes, 0) != 0x4948_4156_454F_5054 {
         return None;
@@ -157,16 +157,15 @@ pub fn info_bytes(size: u64) -> [u8; 12]
 }
 
 /// Whether an option's data are those of an INFO or a GO.
-pub fn asks_info(data: &[u8]) -> bool
-    requires { length data.now ≤ most_data }
-    ensures { result ≡ asks_info data.now }
+pub fn asks_info(bytes: &[u8]) -> bool
+    ensures { result ≡ asks_info bytes.now }
 {
-    if data.len() < 6 {
+    if bytes.len() < 6 {
         return false;
     }
-    let name = four_at(data, 0) as usize;
-    if data.len() < name + 6 {
+    let name = four_at(bytes, 0) as usize;
+    if bytes.len() < name + 6 {
         return false;
     }
-    data.len() == name + 6 + 2 * two_at(data, 4 + name) as usize
+    bytes.len() == name + 6 + 2 * two_at(bytes, 4 + name) as usize
 }

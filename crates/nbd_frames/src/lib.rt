@@ -4,12 +4,12 @@
 
 mod handshake;
 mod numbers;
-mod reply;
+mod replies;
 mod request;
 
 pub use handshake::{
     Choice, MOST_DATA, OptionHeader, Reply, asks_info, export_bytes, greet, info_bytes, read_flags,
     read_option, reply_front,
 };
-pub use reply::{Failure, reply};
+pub use replies::{Failure, reply};
 pub use request::{Command, RequestHeader, read_request};

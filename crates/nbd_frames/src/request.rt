@@ -1,5 +1,5 @@
 // Requests of a client.
-ghost use Rattle.std.specs.Prelude.{◌≡◌, ◌≢◌, ◌<◌, ◌^◌, take, Some, IfSome, OnNone};
+ghost use Rattle.std.specs.Prelude.{◌≡◌, ◌≢◌, ◌<◌, ◌^◌, take, Some, IfSome, IfNone};
 ghost use Rattle.nbd_frames.specs.Numbers.{four};
 ghost use Rattle.nbd_frames.specs.Requests.{IsHeader, command_of, request_bytes, request_magic};
 ghost use Rattle.nbd_frames.specs.declared.request.RequestHeader.{RequestHeader};
@@ -53,7 +53,7 @@ pub fn read_request(bytes: &[u8; 28]) -> Option<RequestHeader>
     ensures lawful { IfSome result (λ header. IsHeader header) }
     ensures only { (header : RequestHeader) → IsHeader header → bytes.now ≡ request_bytes header
         → result ≡ Some header }
-    ensures none { OnNone result (take 4 bytes.now ≢ four request_magic) }
+    ensures none { IfNone result (take 4 bytes.now ≢ four request_magic) }
 {
     if four_at(bytes, 0) != 0x2560_9513 {
         return None;

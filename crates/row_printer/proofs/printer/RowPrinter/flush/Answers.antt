@@ -1,4 +1,4 @@
-use Rattle.row_printer.specs.Printing.stream_text
+use Rattle.row_printer.specs.Printing.{stream_text}
 use Rattle.ghost_list.specs.Items.{items}
 use Rattle.row_printer.proofs.printer.RowPrinter.flush.Goals as goal
 

@@ -1,6 +1,6 @@
 use Rattle.std.proofs.Common.{◌∙◌, sym, ap}
 use Rattle.std.specs.Prelude.{nat_lt}
-use Rattle.row_printer.specs.Printing.table_of
+use Rattle.row_printer.specs.Printing.{table_of}
 use Rattle.ghost_list.specs.Items.{items}
 use Rattle.row_printer.proofs.printer.RowPrinter.short.Goals as goal
 use Rattle.run_text.specs.Laws.{rows_short}
