@@ -1,5 +1,5 @@
 -- A disk that is asked again behind each power cut.
-use Rattle.std.proofs.Common.{◌≡◌, ℕ, suc, ◌+◌, Bool, true, false, List, [], ◌∷◌, ◌++◌, refl, sym, ap, ◌∙◌, subst, replicate, inl, inr, arith}
+use Rattle.std.proofs.Common.{◌≡◌, ℕ, add-one, ◌+◌, Bool, true, false, List, [], ◌∷◌, ◌++◌, refl, sym, ap, ◌∙◌, subst, replicate, inl, inr, arith}
 use Rattle.std.specs.Prelude.{Ok, Err}
 use Rattle.atomic_sectors.{specs.Lines.Write, specs.Stops.{RoseBy, stops_by}, specs.declared.layout.Layout.Layout, specs.declared.lines.Stopped.Stopped as Why, proofs.Stopping.rose-both}
 use Rattle.atomic_sectors.specs.declared.lines.Stopped.TheVariants as why
@@ -32,19 +32,25 @@ module _ (n : ℕ) (layout : Layout) (request : Request) where
     stops = subst (λ (k : ℕ). RoseBy k stops_was stops_now) (omega arith) stops;
   }
 
+  -- the request that a cut stopped
+  abbrev stopped : Request × Answer
+  stopped = (request, says.Stopped why.Cut)
+
+  replicate_more : (k : ℕ) → replicate (k + 1) stopped ≡ stopped ∷ replicate k stopped
+  replicate_more k = rw add-one refl
+
   pub asked_again : (was mid now : List Write) (stops_was stops_mid stops_now cuts : ℕ) (first then : Answer) → Asked was mid stops_was stops_mid cuts first
       → is_cut first ≡ true
       → ((earlier : List (Request × Answer)) → IsServed n layout earlier mid → IsServed n layout ((request, then) ∷ earlier) now)
       → RoseBy (stops_of then) stops_mid stops_now → Asked was now stops_was stops_now (cuts + 1) then
   asked_again was mid now stops_was stops_mid stops_now cuts first then had cut served stops =
-      let is = cut_is first cut in
-      let again : replicate (cuts + 1) (request, says.Stopped why.Cut) ≡ (request, says.Stopped why.Cut) ∷ replicate cuts (request, says.Stopped why.Cut) = refl in
+      let is : first ≡ says.Stopped why.Cut = cut_is first cut in
+      let one : stops_of first ≡ 1 = ap stops_of is in
       record {
         answers = λ earlier was_served.
-            subst (λ (asked : List (Request × Answer)). IsServed n layout ((request, then) ∷ (asked ++ earlier)) now) (sym again)
-            (subst (λ (a : Answer). IsServed n layout ((request, then) ∷ ((request, a) ∷ (replicate cuts (request, says.Stopped why.Cut) ++ earlier))) now) is
-            (served ((request, first) ∷ (replicate cuts (request, says.Stopped why.Cut) ++ earlier)) (had.answers earlier was_served)));
-        stops =
-            let one : stops_of first ≡ 1 = ap stops_of is in
-            subst (λ (k : ℕ). RoseBy k stops_was stops_now) (omega (arith, one)) (rose-both (stops_of first + (cuts + 0)) (stops_of then) stops_was stops_mid stops_now had.stops stops);
+            subst (λ (asked : List (Request × Answer)). IsServed n layout ((request, then) ∷ (asked ++ earlier)) now) (sym (replicate_more cuts))
+            (subst (λ (a : Answer). IsServed n layout ((request, then) ∷ ((request, a) ∷ (replicate cuts stopped ++ earlier))) now) is
+            (served ((request, first) ∷ (replicate cuts stopped ++ earlier)) (had.answers earlier was_served)));
+        stops = subst (λ (k : ℕ). RoseBy k stops_was stops_now) (omega (arith, one))
+            (rose-both (stops_of first + (cuts + 0)) (stops_of then) stops_was stops_mid stops_now had.stops stops);
       }

@@ -1,5 +1,6 @@
-mod Reading
+-- Lemmas on a client's messages.
+mod Filling
+mod Moving
+mod Replying
 mod Asking
-mod Answering
 mod Messages
-mod Sessions

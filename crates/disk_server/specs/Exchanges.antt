@@ -1,6 +1,6 @@
 -- Requests of a client, and what became of them.
 use Rattle.std.specs.Prelude.{◌≡◌, ◌≢◌, ◌⊎◌, ℕ, ◌+◌, ◌-◌, ◌^◌, ◌≤◌, ◌&&◌, nat_lt, nat_le, Bool, true, false, if◌then◌else◌, List, [], ◌∷◌, ◌++◌, length, replicate, Option, Some, None, Result, Ok, Err}
-use Rattle.atomic_sectors.specs.{Stops.stops_by, declared.lines.Stopped.TheVariants as why}
+use Rattle.atomic_sectors.specs.declared.lines.Stopped.TheVariants as why
 use Rattle.disk_rules.specs.{declared.Answer.Answer, declared.Request.Request, declared.Request.TheVariants.{Read, Write, Flush}}
 use Rattle.disk_rules.specs.declared.Answer.TheVariants as says
 use Rattle.disk_rules.specs.declared.Refusal.TheVariants as refusal

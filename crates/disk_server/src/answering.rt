@@ -1,11 +1,11 @@
 // A disk is asked, and what a client is told of its answer.
-ghost use Rattle.std.specs.Prelude.{◌≡◌, ℕ, ◌+◌, List, ◌∷◌, ◌++◌, replicate};
+ghost use Rattle.std.specs.Prelude.{◌≡◌, ℕ, List};
 ghost use Rattle.atomic_sectors.specs.Sectors.{Fits};
 ghost use Rattle.atomic_sectors.specs.Stops.{RoseBy};
 ghost use Rattle.disk_rules.specs.declared.{Request.Request, Answer.Answer};
 ghost use Rattle.disk_bytes.specs.Parts.{IsReady};
 ghost use Rattle.disk_bytes.specs.Serving.{IsServed};
-ghost use Rattle.disk_server.specs.Exchanges.{Rides, asked_behind, failure_of, is_cut, stops_behind};
+ghost use Rattle.disk_server.specs.Exchanges.{Rides, asked_behind, bytes_of, failure_of, is_cut, stops_behind};
 
 use atomic_sectors::{Lines, Stopped};
 use disk_bytes::{Disk, serve};

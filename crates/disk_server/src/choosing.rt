@@ -1,17 +1,20 @@
 // The handshake, message by message.
-ghost use Rattle.std.specs.Prelude.{◌≡◌, ℕ, ◌≤◌, ◌<◌, true, List, length, IfOk, IfErr, OnOk, OnErr, nat_le};
+ghost use Rattle.std.specs.Prelude.{◌≡◌, ℕ, ◌≤◌, ◌<◌, ◌++◌, true, if◌then◌else◌, [], List, length, replicate, IfOk, IfErr, OnOk, OnErr};
 ghost use Rattle.std.specs.Io.KnownBytes.{Appends};
 ghost use Rattle.pcm_io.specs.Faults.{Rose};
 ghost use Rattle.pcm_io.specs.Giving.{AppendsPrefix};
 ghost use Rattle.pcm_io.specs.Taking.{Takes};
 ghost use Rattle.nbd_frames.specs.Numbers.{four};
-ghost use Rattle.nbd_frames.specs.Options.{IsOption, are_known, is_told, option_bytes, option_reply, replies_to, wants_zeros};
+ghost use Rattle.nbd_frames.specs.Options.{IsOption, are_known, export_bytes, info_replies, is_told, option_bytes, option_reply, replies_to};
 ghost use Rattle.disk_server.specs.Messages.{behind_option};
+ghost use Rattle.nbd_frames.specs.declared.handshake.Reply.TheVariants.{Ack};
+ghost use Rattle.disk_server.specs.Reading.{StopsAmid};
 ghost use Rattle.disk_server.specs.Endings.{NoneFollows};
 ghost use Rattle.disk_server.specs.declared.phase.Phase.TheVariants.{Opening, Choosing};
 
 use crate::phase::{Ended, Phase};
 use crate::reading::{fill, fill_on, skip};
+use crate::writing::write_both;
 use nbd_frames::{
     Choice, MOST_DATA, OptionHeader, Reply, asks_info, export_bytes, info_bytes, read_flags,
     read_option, reply_front,
@@ -97,8 +100,7 @@ fn say<K: Sink>(sink: &mut K, choice: Choice, reply: Reply, bytes: &[u8]) -> Res
     ensures fault { OnErr result (Rose (K.faults sink.old) (K.faults sink.new)) }
     ensures never_falls { K.faults sink.old ≤ K.faults sink.new }
 {
-    write_all(sink, &reply_front(choice, reply, bytes.len() as u32))?;
-    write_all(sink, bytes)
+    write_both(sink, &reply_front(choice, reply, bytes.len() as u32), bytes)
 }
 
 // Writes a reply that has data, and the one that says that this is all.
@@ -129,11 +131,10 @@ fn say_size<K: Sink>(sink: &mut K, size: u64, zeros: bool) -> Result<(), WriteFa
     ensures fault { OnErr result (Rose (K.faults sink.old) (K.faults sink.new)) }
     ensures never_falls { K.faults sink.old ≤ K.faults sink.new }
 {
-    write_all(sink, &export_bytes(size))?;
     if zeros {
-        write_all(sink, &[0; 124])
+        write_both(sink, &export_bytes(size), &[0; 124])
     } else {
-        Ok(())
+        write_all(sink, &export_bytes(size))
     }
 }
 

@@ -8,6 +8,7 @@ mod phase;
 mod reading;
 mod requests;
 mod session;
+mod writing;
 
 pub use answering::OnCut;
 pub use phase::{Ended, Phase};

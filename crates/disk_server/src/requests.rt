@@ -6,9 +6,9 @@ ghost use Rattle.pcm_io.specs.Giving.{AppendsPrefix};
 ghost use Rattle.pcm_io.specs.Taking.{Takes};
 ghost use Rattle.atomic_sectors.specs.Sectors.{Fits};
 ghost use Rattle.disk_bytes.specs.Parts.{IsReady};
-ghost use Rattle.nbd_frames.specs.Requests.{IsHeader, request_bytes};
+ghost use Rattle.nbd_frames.specs.Requests.{IsHeader, reply_bytes, request_bytes};
 ghost use Rattle.nbd_frames.specs.declared.request.Command.TheVariants.{Disconnect};
-ghost use Rattle.disk_server.specs.Exchanges.{Brings, failure_of, bytes_of, is_known, is_request, payload_of, reply_of};
+ghost use Rattle.disk_server.specs.Exchanges.{Brings, failure_of, bytes_of, is_known, is_request, payload_of};
 ghost use Rattle.disk_server.specs.Reading.{StopsAmid};
 ghost use Rattle.disk_server.specs.Endings.{NoneFollows};
 ghost use Rattle.disk_server.specs.Answering.{IsAnswered};
@@ -17,6 +17,7 @@ ghost use Rattle.disk_server.specs.declared.phase.Phase.TheVariants.{Serving};
 use crate::answering::{OnCut, ask, bytes_of, failure_of};
 use crate::phase::Ended;
 use crate::reading::{fill, read_on, skip};
+use crate::writing::write_both;
 use atomic_sectors::Lines;
 use disk_bytes::Disk;
 use disk_rules::{Answer, Request};
@@ -145,8 +146,8 @@ fn write_answer<K: Sink>(
     ensures fault { OnErr result (Rose (K.faults sink.old) (K.faults sink.new)) }
     ensures never_falls { K.faults sink.old ≤ K.faults sink.new }
 {
-    write_all(sink, &reply(failure_of(request, answer), cookie))?;
-    write_all(sink, bytes_of(answer))
+    let front = reply(failure_of(request, answer), cookie);
+    write_both(sink, &front, bytes_of(answer))
 }
 
 // Answers a request: the disk is asked for it, where there is such a one.

@@ -4,8 +4,8 @@ use Rattle.disk_server.specs.{Messages.{Message, phase_of}, Sessions.seen}
 use Rattle.disk_server.proofs.Messages.{Has}
 use Rattle.disk_server.proofs.session.serve.Given as goal
 
-abbrev pub invariant-loop-_message : goal.invariant-loop-_message
-invariant-loop-_message g l = record {
+abbrev pub invariant-loop-message : goal.invariant-loop-message
+invariant-loop-message g l = record {
   so_far : (messages : List Message)
       × Has g.row.B l.fn.disk.layout l.on_cut
       (seen g.S.Source.left g.S.Source.taken g.S.Source.faults g.K.Sink.written g.K.Sink.faults g.L.Lines.made g.L.Lines.stops l.fn.source l.fn.sink l.fn.lines)
