@@ -4,3 +4,4 @@ mod Moving
 mod Replying
 mod Asking
 mod Messages
+mod Stepping

@@ -2,7 +2,8 @@
 use Rattle.std.proofs.Common.{◌≡◌, ◌≤◌, ℕ, List, ◌++◌, length, Option, arith}
 use Rattle.std.specs.Prelude.{OnOk, OnErr, Result, Ok, Err}
 use Rattle.std.specs.Io.KnownBytes.{Appends}
-use Rattle.pcm_io.{specs.Giving.AppendsPrefix, proofs.ByteLemmas.{Appends-Appends, Appends-AppendsPrefix}}
+use Rattle.pcm_io.{specs.Giving.AppendsPrefix, specs.declared.fault.WriteFault.WriteFault, proofs.ByteLemmas.{Appends-Appends, Appends-AppendsPrefix}}
+use Rattle.disk_server.specs.Answering.{WritesOr}
 
 -- what holds anyway holds of an error, and what follows of one
 pub on_err : {T E : Type 0} (result : Result T E) (P : Type 0) → P → OnErr result P
@@ -24,3 +25,9 @@ module _ {T E : Type 0} (was mid now : Option (List ℕ)) (first second : List �
 
   pub then_err : OnErr result (AppendsPrefix mid now second) → OnErr result (AppendsPrefix was now (first ++ second))
   then_err = err_so result (AppendsPrefix mid now second) (AppendsPrefix was now (first ++ second)) (Appends-AppendsPrefix was mid now first second had)
+
+-- all bytes, or some first ones of them
+pub writes_or : (result : Result (Unit {0}) WriteFault) (was now : Option (List ℕ)) (bytes : List ℕ) → OnOk result (Appends was now bytes)
+    → OnErr result (AppendsPrefix was now bytes) → WritesOr result was now bytes
+writes_or (Ok done) was now bytes all first = all
+writes_or (Err fault) was now bytes all first = first

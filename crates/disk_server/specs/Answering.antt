@@ -5,7 +5,15 @@ use Rattle.atomic_sectors.specs.{Lines.Write, Stops.RoseBy, declared.layout.Layo
 use Rattle.disk_rules.specs.{declared.Answer.Answer, declared.Request.Request}
 use Rattle.disk_bytes.specs.Serving.{IsServed}
 use Rattle.nbd_frames.specs.{declared.replies.Failure.Failure, declared.request.RequestHeader.RequestHeader}
-use Rattle.disk_server.specs.{Exchanges.{Becomes, Brings, Served, asked_behind, reply_of, stops_behind}, declared.answering.OnCut.OnCut}
+use Rattle.disk_server.specs.{Exchanges.{Becomes, Brings, Rides, Served, asked_behind, reply_of, stops_behind}, declared.answering.OnCut.OnCut}
+
+-- a disk was asked, and again behind each cut where it rides through them
+pub record IsAsked (n : ℕ) (layout : Layout) (mode : OnCut) (request : Request) (made_was made_now : List Write) (stops_was stops_now : ℕ) (answer : Answer) : Type 0 where
+  pub cuts : ℕ
+  pub rides : Rides mode (record { request = request; cuts = cuts; answer = answer })
+  pub answers : (earlier : List (Request × Answer)) → IsServed n layout earlier made_was
+      → IsServed n layout (asked_behind (Ok (record { request = request; cuts = cuts; answer = answer })) earlier) made_now
+  pub stops : RoseBy (stops_behind (Ok (record { request = request; cuts = cuts; answer = answer })) 0) stops_was stops_now
 
 -- this was written, or some first bytes of it where writing failed
 abbrev pub WritesOr : Result (Unit {0}) WriteFault → Option (List ℕ) → Option (List ℕ) → List ℕ → Type 0

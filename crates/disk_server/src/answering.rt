@@ -1,11 +1,10 @@
 // A disk is asked, and what a client is told of its answer.
-ghost use Rattle.std.specs.Prelude.{◌≡◌, ℕ, List};
+ghost use Rattle.std.specs.Prelude.{◌≡◌};
 ghost use Rattle.atomic_sectors.specs.Sectors.{Fits};
-ghost use Rattle.atomic_sectors.specs.Stops.{RoseBy};
-ghost use Rattle.disk_rules.specs.declared.{Request.Request, Answer.Answer};
 ghost use Rattle.disk_bytes.specs.Parts.{IsReady};
-ghost use Rattle.disk_bytes.specs.Serving.{IsServed};
-ghost use Rattle.disk_server.specs.Exchanges.{Rides, asked_behind, bytes_of, failure_of, is_cut, stops_behind};
+ghost use Rattle.disk_server.specs.Answering.{IsAsked};
+ghost use Rattle.disk_server.specs.Exchanges.{bytes_of, failure_of, is_cut};
+ghost use Rattle.disk_server.specs.declared.answering.OnCut.TheVariants.{Ride};
 
 use atomic_sectors::{Lines, Stopped};
 use disk_bytes::{Disk, serve};
@@ -35,7 +34,32 @@ fn is_cut(answer: &Answer) -> bool
     }
 }
 
-// Asks the disk, and where it rides through power cuts asks again behind each.
+// Asks the disk, and again behind each power cut that stops it.
+fn ride<const B: usize, L: Lines<B>>(
+    alloc: Global,
+    disk: &mut Disk<B>,
+    lines: &mut L,
+    request: &Request,
+) -> Answer
+    requires fits { Fits B disk.old.layout (L.count lines.old) }
+    requires ready { IsReady B (L.made lines.old) disk.old }
+    ensures asked { IsAsked B disk.old.layout Ride request.now (L.made lines.old)
+        (L.made lines.new) (L.stops lines.old) (L.stops lines.new) result }
+    ensures ready { IsReady B (L.made lines.new) disk.new }
+    ensures layout { disk.new.layout ≡ disk.old.layout }
+    ensures count { L.count lines.new ≡ L.count lines.old }
+{
+    let mut answer = serve(alloc, disk, lines, request);
+    for _cut in 0..MOST_CUTS {
+        if !is_cut(&answer) {
+            return answer;
+        }
+        answer = serve(alloc, disk, lines, request);
+    }
+    answer
+}
+
+// Asks the disk, and again behind power cuts where it is to ride through them.
 pub(crate) fn ask<const B: usize, L: Lines<B>>(
     alloc: Global,
     disk: &mut Disk<B>,
@@ -45,31 +69,16 @@ pub(crate) fn ask<const B: usize, L: Lines<B>>(
 ) -> Answer
     requires fits { Fits B disk.old.layout (L.count lines.old) }
     requires ready { IsReady B (L.made lines.old) disk.old }
-    ensures served { (cuts : ℕ)
-        × Rides on_cut (record { request = request.now; cuts = cuts; answer = result })
-        × ((earlier : List (Request × Answer))
-        → IsServed B disk.old.layout earlier (L.made lines.old)
-        → IsServed B disk.old.layout (asked_behind
-        (Ok (record { request = request.now; cuts = cuts; answer = result })) earlier)
-        (L.made lines.new))
-        × RoseBy (stops_behind
-        (Ok (record { request = request.now; cuts = cuts; answer = result })) 0)
-        (L.stops lines.old) (L.stops lines.new) }
+    ensures asked { IsAsked B disk.old.layout on_cut request.now (L.made lines.old)
+        (L.made lines.new) (L.stops lines.old) (L.stops lines.new) result }
     ensures ready { IsReady B (L.made lines.new) disk.new }
     ensures layout { disk.new.layout ≡ disk.old.layout }
     ensures count { L.count lines.new ≡ L.count lines.old }
 {
-    let mut answer = serve(alloc, disk, lines, request);
-    if on_cut == OnCut::Drop {
-        return answer;
+    match on_cut {
+        OnCut::Ride => ride(alloc, disk, lines, request),
+        OnCut::Drop => serve(alloc, disk, lines, request),
     }
-    for _cut in 0..MOST_CUTS {
-        if !is_cut(&answer) {
-            return answer;
-        }
-        answer = serve(alloc, disk, lines, request);
-    }
-    answer
 }
 
 // Why the request failed, as the client is told, if it did.

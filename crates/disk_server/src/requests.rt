@@ -1,8 +1,6 @@
 // The requests of a client.
-ghost use Rattle.std.specs.Prelude.{◌≡◌, ◌≢◌, ℕ, ◌≤◌, ◌<◌, ◌++◌, List, length, IfOk, IfErr, OnErr, MatchResult};
-ghost use Rattle.std.specs.Io.KnownBytes.{Appends};
+ghost use Rattle.std.specs.Prelude.{◌≡◌, ◌≢◌, ℕ, ◌≤◌, ◌<◌, ◌++◌, List, length, IfOk, IfErr, OnErr};
 ghost use Rattle.pcm_io.specs.Faults.{Rose};
-ghost use Rattle.pcm_io.specs.Giving.{AppendsPrefix};
 ghost use Rattle.pcm_io.specs.Taking.{Takes};
 ghost use Rattle.atomic_sectors.specs.Sectors.{Fits};
 ghost use Rattle.disk_bytes.specs.Parts.{IsReady};
@@ -11,7 +9,7 @@ ghost use Rattle.nbd_frames.specs.declared.request.Command.TheVariants.{Disconne
 ghost use Rattle.disk_server.specs.Exchanges.{Brings, failure_of, bytes_of, is_known, is_request, payload_of};
 ghost use Rattle.disk_server.specs.Reading.{StopsAmid};
 ghost use Rattle.disk_server.specs.Endings.{NoneFollows};
-ghost use Rattle.disk_server.specs.Answering.{IsAnswered};
+ghost use Rattle.disk_server.specs.Answering.{IsAnswered, WritesOr};
 ghost use Rattle.disk_server.specs.declared.phase.Phase.TheVariants.{Serving};
 
 use crate::answering::{OnCut, ask, bytes_of, failure_of};
@@ -138,11 +136,8 @@ fn write_answer<K: Sink>(
     request: &Request,
     answer: &Answer,
 ) -> Result<(), WriteFault>
-    ensures written { MatchResult result
-        (λ _. Appends (K.written sink.old) (K.written sink.new)
-        (reply_bytes (failure_of request.now answer.now) cookie ++ bytes_of answer.now))
-        (λ _. AppendsPrefix (K.written sink.old) (K.written sink.new)
-        (reply_bytes (failure_of request.now answer.now) cookie ++ bytes_of answer.now)) }
+    ensures written { WritesOr result (K.written sink.old) (K.written sink.new)
+        (reply_bytes (failure_of request.now answer.now) cookie ++ bytes_of answer.now) }
     ensures fault { OnErr result (Rose (K.faults sink.old) (K.faults sink.new)) }
     ensures never_falls { K.faults sink.old ≤ K.faults sink.new }
 {

@@ -1,7 +1,7 @@
 use Rattle.std.proofs.Common.{◌≡◌}
 use Rattle.disk_bytes.specs.Parts.{IsReady}
 use Rattle.disk_server.proofs.Asking.{Asked}
-use Rattle.disk_server.proofs.answering.ask.Given as goal
+use Rattle.disk_server.proofs.answering.ride.Given as goal
 
 abbrev pub invariant-loop-cut : goal.invariant-loop-cut
 invariant-loop-cut g l = record {
