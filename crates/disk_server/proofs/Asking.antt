@@ -1,12 +1,11 @@
 -- A disk that is asked again behind each power cut.
-use Rattle.std.proofs.Common.{◌≡◌, ℕ, add-one, ◌+◌, Bool, true, false, List, [], ◌∷◌, ◌++◌, refl, sym, ap, ◌∙◌, subst, replicate, inl, inr, arith}
-use Rattle.std.specs.Prelude.{Ok, Err}
-use Rattle.atomic_sectors.{specs.Lines.Write, specs.Stops.{RoseBy, stops_by}, specs.declared.layout.Layout.Layout, specs.declared.lines.Stopped.Stopped as Why, proofs.Stopping.rose-both}
+use Rattle.std.proofs.Common.{◌≡◌, ℕ, add-one, ◌+◌, true, List, ◌∷◌, ◌++◌, refl, sym, ap, subst, replicate, arith}
+use Rattle.atomic_sectors.{specs.Lines.Write, specs.Stops.{RoseBy}, specs.declared.layout.Layout.Layout, proofs.Stopping.rose-both}
 use Rattle.atomic_sectors.specs.declared.lines.Stopped.TheVariants as why
 use Rattle.disk_rules.specs.{declared.Answer.Answer, declared.Request.Request}
 use Rattle.disk_rules.specs.declared.Answer.TheVariants as says
 use Rattle.disk_bytes.specs.Serving.{IsServed, stops_of}
-use Rattle.disk_server.specs.Exchanges.{Served, asked_behind, is_cut, stops_behind}
+use Rattle.disk_server.specs.Exchanges.{is_cut}
 
 -- what a power cut stopped
 cut_is : (answer : Answer) → is_cut answer ≡ true → answer ≡ says.Stopped why.Cut

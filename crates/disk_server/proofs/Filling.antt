@@ -1,12 +1,12 @@
 -- Bytes that several reads bring into one buffer.
-use Rattle.std.proofs.Common.{◌≡◌, ℕ, ◌+◌, ◌-◌, ◌<◌, ◌≤◌, List, [], ◌++◌, length, take, Option, refl, sym, ap, ◌∙◌, subst, length-append, arith}
-use Rattle.std.{specs.Io.KnownBytes.{Consumes, Keeps}, proofs.KnownBytes.Consumes-kept, proofs.Math.Seq.take-append-add}
+use Rattle.std.proofs.Common.{◌≡◌, ℕ, ◌+◌, ◌<◌, ◌≤◌, List, ◌++◌, length, take, Option, sym, ap, ◌∙◌, subst, length-append, arith}
+use Rattle.std.{specs.Io.KnownBytes.{Keeps}, proofs.KnownBytes.Consumes-kept, proofs.Math.Seq.take-append-add}
 use Rattle.std.proofs.lemmas.List.{length-take-le, take-append-le}
-use Rattle.std.specs.Prelude.{IfErr, Result, Ok, Err}
+use Rattle.std.specs.Prelude.{IfErr, Result, Err}
 use Rattle.disk_server.specs.{Endings.{IsPart, NoneFollows}, Reading.StopsAmid, declared.phase.Ended.Ended, declared.phase.Phase.Phase}
 use Rattle.disk_server.specs.declared.phase.Ended.TheVariants as by
 use borrow.Rule.Slice.PartMut.{put_mid, post_of}
-use Rattle.pcm_io.{specs.Faults.raised_by, specs.Taking.Takes, proofs.ByteLemmas.{Takes-Takes, Takes-nothing, Takes-read}}
+use Rattle.pcm_io.{specs.Taking.Takes}
 
 -- a buffer into which bytes came from a place on
 module _ (done n k : ℕ) (old piece : List ℕ) (within : done ≤ length old) (short : n ≤ length piece) where
@@ -17,7 +17,7 @@ module _ (done n k : ℕ) (old piece : List ℕ) (within : done ≤ length old) 
   took_more =
       let behind = post_of done k old in
       let all : take (length (take done old) + n) (take done old ++ (piece ++ behind)) ≡ take done old ++ take n piece =
-          take-append-add (take done old) (piece ++ behind) n ∙ ap (λ (rest : List ℕ). take done old ++ rest) (take-append-le n piece behind short) in
+      take-append-add (take done old) (piece ++ behind) n ∙ ap (λ (rest : List ℕ). take done old ++ rest) (take-append-le n piece behind short) in
       subst (λ (i : ℕ). take (i + n) (put_mid done k old piece) ≡ take done old ++ take n piece) front all
 
   pub room_more : done + n ≤ length (put_mid done k old piece)

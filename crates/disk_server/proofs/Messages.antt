@@ -1,18 +1,18 @@
 -- One message more.
-use Rattle.std.proofs.Common.{◌≡◌, ℕ, ◌+◌, ◌≤◌, List, [], ◌∷◌, ◌++◌, length, Option, refl, sym, ap, ◌∙◌, subst, append_assoc, inl, inr, arith}
+use Rattle.std.proofs.Common.{◌≡◌, ℕ, ◌+◌, ◌≤◌, List, [], ◌∷◌, Option, refl, sym, subst, inl, inr, arith}
 use Rattle.std.specs.{Io.KnownBytes.Appends, Prelude.{Ok, Err}}
 use Rattle.std.proofs.lemmas.List.{append-nil}
 use Rattle.pcm_io.specs.{Faults.Rose, Giving.AppendsPrefix, Taking.Takes}
-use Rattle.pcm_io.proofs.ByteLemmas.{Appends-Appends, Appends-AppendsPrefix, Takes-Takes}
+use Rattle.pcm_io.proofs.ByteLemmas.{Appends-Appends, Appends-AppendsPrefix, Takes-Takes, Takes-nothing}
 use Rattle.atomic_sectors.{specs.Stops.RoseBy, specs.declared.layout.Layout.Layout, proofs.Stopping.rose-both}
-use Rattle.disk_rules.specs.{Standing.disk_size, declared.Answer.Answer, declared.Request.Request}
-use Rattle.disk_bytes.specs.Serving.{IsServed}
-use Rattle.disk_server.specs.{Endings.NoneFollows, Exchanges.{Served, Exchange, stops_behind}}
-use Rattle.disk_server.specs.Messages.{AreMessages, IsMessage, Message, Flags, Chooses, Asks, answered, answered_to, asked, phase_behind, phase_of, sent, sent_by, stops_by_message, stops_of_all}
-use Rattle.disk_server.specs.Sessions.{Answers, Comes, EndsBy, IsSession, IsUnanswered, IsWithout, Seen, Serves, StopsBy, Writes}
+use Rattle.disk_rules.specs.{Standing.disk_size}
+use Rattle.nbd_frames.specs.Options.{greeting}
+use Rattle.disk_server.proofs.Stepping.{idle}
+use Rattle.disk_server.specs.{Endings.NoneFollows, Exchanges.{stops_behind}}
+use Rattle.disk_server.specs.Messages.{AreMessages, Message, Flags, Chooses, Asks, answered, asked, phase_of, sent, sent_by, stops_by_message, stops_of_all}
+use Rattle.disk_server.specs.Sessions.{Answers, EndsBy, IsSession, IsUnanswered, IsWithout, Seen, Serves, StopsBy, Writes}
 use Rattle.disk_server.specs.{declared.answering.OnCut.OnCut, declared.phase.Ended.Ended, declared.phase.Phase.Phase}
 use Rattle.disk_server.specs.declared.phase.Ended.TheVariants as by
-use Rattle.disk_server.specs.declared.phase.Phase.TheVariants.{Opening}
 
 -- a message adds its stops to those before
 stops_add : (message : Message) (before : ℕ) → stops_by_message message before ≡ before + stops_by_message message 0
@@ -126,3 +126,44 @@ module _ (n : ℕ) (layout : Layout) where
         | inl unanswered ↦ ends_unanswered ended unanswered
         | inr none ↦ ends_without ended none
       ]
+
+      -- the same, by another name of the layout and of where the two stand
+      module _ (its : Layout) (phase : Phase) (layout_is : its ≡ layout) (phase_is : phase ≡ phase_of before) where
+        pub ends_at : (ended : Ended) → StopsBy n its mode phase mid now ended → IsSession n layout mode was now ended
+        ends_at ended stops =
+            ends_so ended (subst (λ (l : Layout). StopsBy n l mode (phase_of before) mid now ended) layout_is
+            (subst (λ (p : Phase). StopsBy n its mode p mid now ended) phase_is stops))
+
+        pub more_at : (next : Phase) → Answers n its mode phase mid now next → mid.unread ≤ now.unread → mid.unwritten ≤ now.unwritten
+            → (message : Message) × Has was now (message ∷ before) × (next ≡ phase_of (message ∷ before))
+        more_at next answers unread unwritten =
+            has_more next (subst (λ (l : Layout). Answers n l mode (phase_of before) mid now next) layout_is
+            (subst (λ (p : Phase). Answers n its mode p mid now next) phase_is answers)) unread unwritten
+
+    -- a greeting was written, or it wasn't written whole
+    module _ (was now : Seen) (left : now.left ≡ was.left) (taken : now.taken ≡ was.taken) (made : now.made ≡ was.made) (stops : now.stops ≡ was.stops) where
+      takes_none : Takes was.left now.left was.taken now.taken []
+      takes_none =
+          subst (λ (l : Option (List ℕ)). Takes was.left l was.taken now.taken []) (sym left)
+          (subst (λ (t : ℕ). Takes was.left was.left was.taken t []) (sym taken) (Takes-nothing was.left was.taken))
+
+      pub has_begun : Appends was.written now.written greeting → was.unread ≤ now.unread → was.unwritten ≤ now.unwritten → Has was now []
+      has_begun writes unread unwritten = record {
+        in_order = tt;
+        takes = takes_none;
+        writes = writes;
+        serves = idle n layout was now [] made stops (λ earlier. refl) refl;
+        unread = unread;
+        unwritten = unwritten;
+      }
+
+      pub not_begun : AppendsPrefix was.written now.written greeting → Rose was.unwritten now.unwritten → IsSession n layout mode was now by.Unwritten
+      not_begun writes rose = record {
+        messages = [];
+        in_order = tt;
+        rest = [];
+        takes = takes_none;
+        ends = (refl, rose);
+        writes = writes;
+        serves = idle n layout was now [] made stops (λ earlier. refl) refl;
+      }

@@ -114,7 +114,7 @@ module _ (n : ℕ) (layout : Layout) (was now : Seen) where
     none_left is left taken written made stops = inr (
       [],
       subst (λ (l : Option (List ℕ)). Takes was.left l was.taken now.taken []) (sym left)
-      (subst (λ (t : ℕ). Takes was.left was.left was.taken t []) (sym taken) (Takes-nothing was.left was.taken)),
+          (subst (λ (t : ℕ). Takes was.left was.left was.taken t []) (sym taken) (Takes-nothing was.left was.taken)),
       subst (λ (p : Phase). NoneFollows by.Left p [] now.left was.unread now.unread) (sym is) refl,
       subst (λ (text : Option (List ℕ)). Appends was.written text []) (sym written) (Appends-nothing was.written),
       idle [] made stops (λ earlier. refl) refl,

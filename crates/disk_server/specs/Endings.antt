@@ -1,5 +1,5 @@
 -- Why no further message of a client comes.
-use Rattle.std.specs.{Io.KnownBytes.IsAtEnd, Prelude.{◌≡◌, ◌≢◌, ◌⊎◌, ℕ, ◌<◌, Bool, false, List, [], ◌++◌, length, take, Option}}
+use Rattle.std.specs.{Io.KnownBytes.IsAtEnd, Prelude.{◌≡◌, ◌≢◌, ◌⊎◌, ℕ, ◌<◌, false, List, [], ◌++◌, length, take, Option}}
 use Rattle.pcm_io.specs.Faults.{Rose}
 use Rattle.nbd_frames.specs.{Numbers.{four, eight}, Options.{IsOption, are_known, option_bytes, option_magic}, Requests.{IsHeader, request_bytes, request_magic}}
 use Rattle.nbd_frames.specs.{declared.handshake.OptionHeader.OptionHeader, declared.request.RequestHeader.RequestHeader}

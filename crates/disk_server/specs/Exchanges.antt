@@ -1,11 +1,11 @@
 -- Requests of a client, and what became of them.
-use Rattle.std.specs.Prelude.{◌≡◌, ◌≢◌, ◌⊎◌, ℕ, ◌+◌, ◌-◌, ◌^◌, ◌≤◌, ◌&&◌, nat_lt, nat_le, Bool, true, false, if◌then◌else◌, List, [], ◌∷◌, ◌++◌, length, replicate, Option, Some, None, Result, Ok, Err}
+use Rattle.std.specs.Prelude.{◌≡◌, ◌≢◌, ◌⊎◌, ℕ, ◌+◌, ◌-◌, ◌^◌, ◌&&◌, nat_lt, nat_le, Bool, true, false, List, [], ◌∷◌, ◌++◌, length, replicate, Option, Some, None, Result, Ok, Err}
 use Rattle.atomic_sectors.specs.declared.lines.Stopped.TheVariants as why
 use Rattle.disk_rules.specs.{declared.Answer.Answer, declared.Request.Request, declared.Request.TheVariants.{Read, Write, Flush}}
 use Rattle.disk_rules.specs.declared.Answer.TheVariants as says
 use Rattle.disk_rules.specs.declared.Refusal.TheVariants as refusal
 use Rattle.disk_bytes.specs.Serving.{stops_of}
-use Rattle.nbd_frames.specs.{Requests.{IsHeader, reply_bytes, request_bytes}, declared.replies.Failure.Failure, declared.request.Command.Command, declared.request.RequestHeader.RequestHeader}
+use Rattle.nbd_frames.specs.{Requests.{IsHeader, reply_bytes}, declared.replies.Failure.Failure, declared.request.Command.Command, declared.request.RequestHeader.RequestHeader}
 use Rattle.nbd_frames.specs.declared.request.Command.TheVariants as asks
 use Rattle.nbd_frames.specs.declared.replies.Failure.TheVariants as fails
 use Rattle.disk_server.specs.{declared.answering.OnCut.OnCut, declared.answering.OnCut.TheVariants.{Ride, Drop}}

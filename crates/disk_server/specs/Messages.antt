@@ -1,5 +1,5 @@
 -- What a client and the server of a disk say to each other, message by message.
-use Rattle.std.specs.Prelude.{◌≡◌, ℕ, ◌+◌, Bool, true, false, if◌then◌else◌, List, [], ◌∷◌, ◌++◌, length}
+use Rattle.std.specs.Prelude.{◌≡◌, ℕ, Bool, true, false, if◌then◌else◌, List, [], ◌∷◌, ◌++◌, length}
 use Rattle.disk_rules.specs.{declared.Answer.Answer, declared.Request.Request}
 use Rattle.nbd_frames.specs.{Numbers.four, Options.{IsOption, are_known, greeting, is_told, option_bytes, replies_to, wants_zeros}, Requests.request_bytes}
 use Rattle.nbd_frames.specs.{declared.handshake.Choice.Choice, declared.handshake.Choice.TheVariants.{ExportName, Abort, Go}, declared.handshake.OptionHeader.OptionHeader}

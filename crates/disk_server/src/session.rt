@@ -88,9 +88,9 @@ pub fn serve<const B: usize, L: Lines<B>, S: Source, K: Sink>(
     ensures layout { disk.new.layout ≡ disk.old.layout }
     ensures count { L.count lines.new ≡ L.count lines.old }
 {
-    if write_all(sink, &greet()).is_err() {
+    let Ok(()) = write_all(sink, &greet()) else {
         return Ended::Unwritten;
-    }
+    };
     let mut phase = Phase::Opening;
     for _message in 0..u64::MAX {
         match step(alloc, disk, lines, on_cut, phase, source, sink) {

@@ -1,4 +1,4 @@
-use Rattle.std.proofs.Common.{◌-◌, List, ℕ, length, sym, subst, ◌∙◌, arith}
+use Rattle.std.proofs.Common.{◌-◌, List, ℕ, length, sym, subst, ◌∙◌}
 use Rattle.pcm_io.{specs.Taking.Takes, proofs.ByteLemmas.Takes-read}
 use Rattle.disk_server.proofs.Filling.{room_more, took_more}
 use Rattle.disk_server.proofs.reading.fill.Goals as goal

@@ -1,4 +1,4 @@
-use Rattle.std.proofs.Common.{◌≡◌, ℕ, List, subst}
+use Rattle.std.proofs.Common.{ℕ, List, subst}
 use Rattle.std.specs.Prelude.{Result, Ok, Err}
 use Rattle.atomic_sectors.proofs.Stopping.{rose-none}
 use Rattle.disk_rules.specs.declared.Request.{Request}

@@ -1,4 +1,4 @@
-use Rattle.std.proofs.Common.{◌≡◌, ◌++◌, List, ℕ, refl, inr, arith, subst}
+use Rattle.std.proofs.Common.{◌++◌, List, ℕ, refl, inr, arith, subst}
 use Rattle.std.proofs.lemmas.Result.{err_from_is_err_and}
 use Rattle.pcm_io.{specs.Taking.Takes, proofs.ByteLemmas.Takes-Takes}
 use Rattle.nbd_frames.specs.Requests.{request_bytes}
@@ -12,10 +12,10 @@ returns-in_err-request-clause-none g c =
     let ended = c.in_err-request.field-0.0 in
     let header = c.in-Some.header in
     let front = subst (λ (bytes : List ℕ). Takes (g.S.Source.left c.args.source.now) (g.S.Source.left c.fill.new.source) (g.S.Source.taken c.args.source.now) (g.S.Source.taken c.fill.new.source) bytes)
-        c.in-Some.ensures.found c.in_ok-fill.ensures.full in
+    c.in-Some.ensures.found c.in_ok-fill.ensures.full in
     errs c.from_residual-in_err-request.result _ ended (err_from_is_err_and c.from_residual-in_err-request.result c.from_residual-in_err-request.ensures.1) (
       request_bytes header ++ short.0,
       Takes-Takes _ _ _ _ _ _ (request_bytes header) short.0 front short.2,
       amid_none ended Serving (request_bytes header ++ short.0) _ _ _ (omega arith) (inr (header, short.0, c.in-Some.ensures.lawful, refl, short.1))
-      (amid_before ended _ _ _ _ c.fill.ensures.never_falls short.3),
+          (amid_before ended _ _ _ _ c.fill.ensures.never_falls short.3),
     )

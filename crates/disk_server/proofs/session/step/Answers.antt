@@ -26,7 +26,7 @@ returns-in-Ok-answer_request-clause-answers g c =
     let came = c.in_ok-received-in-Serving.ensures.came in
     let received = c.in_ok-received-in-Serving.received in
     request_answered g.row.B c.args.disk.now.layout _ _ c.args.on_cut c.args.phase c.in-Serving.is received.header came.0 received.request came.1 came.2 came.3 came.4 came.5
-    c.answer_request.result c.answer_request.ensures.answered c.in-Ok-answer_request.field-0 c.in-Ok-answer_request.is _ ?
+    c.answer_request.result c.answer_request.ensures.answered c.in-Ok-answer_request.field-0 c.in-Ok-answer_request.is _ c.in-Serving.is
 
 pub returns-in-Serving-clause-stops : goal.returns-in-Serving-clause-stops
 returns-in-Serving-clause-stops g c =
