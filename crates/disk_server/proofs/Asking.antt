@@ -1,6 +1,6 @@
 -- A disk that is asked again behind each power cut.
 use Rattle.std.proofs.Common.{◌≡◌, ℕ, add-one, ◌+◌, true, List, ◌∷◌, ◌++◌, refl, sym, ap, subst, replicate, arith}
-use Rattle.atomic_sectors.{specs.Lines.Write, specs.Stops.{RoseBy}, specs.declared.layout.Layout.Layout, proofs.Stopping.rose-both}
+use Rattle.atomic_sectors.{specs.Lines.Write, specs.Stops.RoseBy, specs.declared.layout.Layout.Layout, proofs.Stopping.rose-both}
 use Rattle.atomic_sectors.specs.declared.lines.Stopped.TheVariants as why
 use Rattle.disk_rules.specs.{declared.Answer.Answer, declared.Request.Request}
 use Rattle.disk_rules.specs.declared.Answer.TheVariants as says

@@ -1,12 +1,9 @@
 -- Bytes that several reads bring into one buffer.
 use Rattle.std.proofs.Common.{◌≡◌, ℕ, ◌+◌, ◌<◌, ◌≤◌, List, ◌++◌, length, take, Option, sym, ap, ◌∙◌, subst, length-append, arith}
-use Rattle.std.{specs.Io.KnownBytes.{Keeps}, proofs.KnownBytes.Consumes-kept, proofs.Math.Seq.take-append-add}
-use Rattle.std.proofs.lemmas.List.{length-take-le, take-append-le}
-use Rattle.std.specs.Prelude.{IfErr, Result, Err}
+use Rattle.std.{specs.Prelude.{IfErr, Result, Err}, proofs.Math.Seq.take-append-add, proofs.lemmas.List.{length-take-le, take-append-le}}
 use Rattle.disk_server.specs.{Endings.{IsPart, NoneFollows}, Reading.StopsAmid, declared.phase.Ended.Ended, declared.phase.Phase.Phase}
 use Rattle.disk_server.specs.declared.phase.Ended.TheVariants as by
 use borrow.Rule.Slice.PartMut.{put_mid, post_of}
-use Rattle.pcm_io.{specs.Taking.Takes}
 
 -- a buffer into which bytes came from a place on
 module _ (done n k : ℕ) (old piece : List ℕ) (within : done ≤ length old) (short : n ≤ length piece) where
@@ -22,13 +19,6 @@ module _ (done n k : ℕ) (old piece : List ℕ) (within : done ≤ length old) 
 
   pub room_more : done + n ≤ length (put_mid done k old piece)
   room_more = omega (arith, length-append (take done old) (piece ++ post_of done k old), length-append piece (post_of done k old), front)
-
--- a call that failed took nothing
-pub takes_kept : (a b c : Option (List ℕ)) (i j k : ℕ) (bytes : List ℕ) → Takes a b i j bytes → Keeps b c → k ≡ j → Takes a c i k bytes
-takes_kept a b c i j k bytes had keeps same = record {
-  first = Consumes-kept a b c bytes had.first keeps;
-  counted = same ∙ had.counted;
-}
 
 -- what is said of an error is said of one that is handed on
 pub errs : {T : Type 0} (result : Result T Ended) (P : Ended → Type 0) (e : Ended) → (x : Ended) × (result ≡ Err x) × (x ≡ e) → P e → IfErr result P

@@ -1,17 +1,14 @@
 -- One message more.
 use Rattle.std.proofs.Common.{◌≡◌, ℕ, ◌+◌, ◌≤◌, List, [], ◌∷◌, Option, refl, sym, subst, inl, inr, arith}
-use Rattle.std.specs.{Io.KnownBytes.Appends, Prelude.{Ok, Err}}
-use Rattle.std.proofs.lemmas.List.{append-nil}
-use Rattle.pcm_io.specs.{Faults.Rose, Giving.AppendsPrefix, Taking.Takes}
-use Rattle.pcm_io.proofs.ByteLemmas.{Appends-Appends, Appends-AppendsPrefix, Takes-Takes, Takes-nothing}
+use Rattle.std.{specs.Io.KnownBytes.Appends, specs.Prelude.{Ok, Err}, proofs.lemmas.List.append-nil}
+use Rattle.pcm_io.{specs.Faults.Rose, specs.Giving.AppendsPrefix, specs.Taking.Takes, proofs.ByteLemmas.{Appends-Appends, Appends-AppendsPrefix, Takes-Takes, Takes-nothing}}
 use Rattle.atomic_sectors.{specs.Stops.RoseBy, specs.declared.layout.Layout.Layout, proofs.Stopping.rose-both}
-use Rattle.disk_rules.specs.{Standing.disk_size}
+use Rattle.disk_rules.specs.Standing.{disk_size}
 use Rattle.nbd_frames.specs.Options.{greeting}
-use Rattle.disk_server.proofs.Stepping.{idle}
-use Rattle.disk_server.specs.{Endings.NoneFollows, Exchanges.{stops_behind}}
+use Rattle.disk_server.specs.{Endings.NoneFollows, Exchanges.stops_behind}
 use Rattle.disk_server.specs.Messages.{AreMessages, Message, Flags, Chooses, Asks, answered, asked, phase_of, sent, sent_by, stops_by_message, stops_of_all}
-use Rattle.disk_server.specs.Sessions.{Answers, EndsBy, IsSession, IsUnanswered, IsWithout, Seen, Serves, StopsBy, Writes}
-use Rattle.disk_server.specs.{declared.answering.OnCut.OnCut, declared.phase.Ended.Ended, declared.phase.Phase.Phase}
+use Rattle.disk_server.specs.{Sessions.{Answers, EndsBy, IsSession, IsUnanswered, IsWithout, Seen, Serves, StopsBy, Writes}, declared.answering.OnCut.OnCut}
+use Rattle.disk_server.{specs.declared.phase.Ended.Ended, specs.declared.phase.Phase.Phase, proofs.Stepping.idle}
 use Rattle.disk_server.specs.declared.phase.Ended.TheVariants as by
 
 -- a message adds its stops to those before

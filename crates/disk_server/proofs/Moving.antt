@@ -1,7 +1,6 @@
 -- Bytes that are written in several calls.
 use Rattle.std.proofs.Common.{ℕ, List, ◌++◌, Option}
-use Rattle.std.specs.Prelude.{OnOk, OnErr, Result, Ok, Err}
-use Rattle.std.specs.Io.KnownBytes.{Appends}
+use Rattle.std.specs.{Io.KnownBytes.Appends, Prelude.{OnOk, OnErr, Result, Ok, Err}}
 use Rattle.pcm_io.{specs.Giving.AppendsPrefix, specs.declared.fault.WriteFault.WriteFault, proofs.ByteLemmas.{Appends-Appends, Appends-AppendsPrefix}}
 use Rattle.disk_server.specs.Answering.{WritesOr}
 

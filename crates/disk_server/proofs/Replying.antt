@@ -1,9 +1,8 @@
 -- What is answered to an option, by its kind.
 use Rattle.std.proofs.Common.{◌≡◌, ◌≢◌, ◌⊎◌, ◌≤◌, ℕ, Bool, true, false, List, [], ◌++◌, length, sym, ap, ◌∙◌, inl, inr}
-use Rattle.std.specs.Prelude.{nat_le, ◌&&◌}
-use Rattle.std.proofs.lemmas.Bool.{cond-false, cond-true, eq-eqb, ne_eqb, le-leb, le-ltb}
-use Rattle.nbd_frames.specs.{Numbers.four, Options.{asks_info, info_replies, is_told, most_data, option_reply, replies_to}}
-use Rattle.nbd_frames.specs.declared.{handshake.Choice.Choice, handshake.Choice.TheVariants.{Exports, Info, Go, Other}}
+use Rattle.std.{specs.Prelude.{nat_le, ◌&&◌}, proofs.lemmas.Bool.{cond-false, cond-true, eq-eqb, ne_eqb, le-leb, le-ltb}}
+use Rattle.nbd_frames.specs.{Numbers.four, Options.{asks_info, info_replies, is_told, most_data, option_reply, replies_to}, declared.handshake.Choice.Choice}
+use Rattle.nbd_frames.specs.declared.handshake.Choice.TheVariants.{Exports, Info, Go, Other}
 use Rattle.nbd_frames.specs.declared.handshake.Reply.TheVariants as says
 
 module _ (size : ℕ) (zeros : Bool) (choice : Choice) (bytes : List ℕ) where

@@ -7,9 +7,10 @@ use Rattle.atomic_sectors.{specs.Lines.Write, specs.Stops.RoseBy, specs.declared
 use Rattle.disk_rules.specs.{Standing.disk_size, declared.Answer.Answer, declared.Request.Request}
 use Rattle.disk_bytes.specs.Serving.{IsServed}
 use Rattle.nbd_frames.specs.{Numbers.four, Options.{IsOption, are_known, option_bytes, replies_to, wants_zeros}, Requests.{IsHeader, request_bytes}}
-use Rattle.nbd_frames.specs.{declared.handshake.Choice.Choice, declared.handshake.OptionHeader.OptionHeader, declared.replies.Failure.Failure, declared.request.RequestHeader.RequestHeader}
-use Rattle.nbd_frames.specs.declared.request.Command.TheVariants.{Disconnect}
-use Rattle.disk_server.specs.{Answering.{IsAnswered, WritesOr}, Endings.NoneFollows, Exchanges.{Brings, payload_of, reply_of}, Messages.{Asks, behind_option, Chooses, Flags, IsMessage, Message, asked, stops_of_all, zeros_in}, Sessions.{Answers, Comes, Seen, Serves, StopsBy}}
+use Rattle.nbd_frames.specs.{declared.handshake.Choice.Choice, declared.handshake.OptionHeader.OptionHeader, declared.replies.Failure.Failure}
+use Rattle.nbd_frames.specs.{declared.request.Command.TheVariants.Disconnect, declared.request.RequestHeader.RequestHeader}
+use Rattle.disk_server.specs.{Answering.{IsAnswered, WritesOr}, Endings.NoneFollows, Exchanges.{Brings, payload_of, reply_of}}
+use Rattle.disk_server.specs.{Messages.{Asks, behind_option, Chooses, Flags, IsMessage, Message, asked, stops_of_all, zeros_in}, Sessions.{Answers, Comes, Seen, Serves, StopsBy}}
 use Rattle.disk_server.specs.{declared.answering.OnCut.OnCut, declared.phase.Phase.Phase, declared.phase.Phase.TheVariants.{Opening, Choosing, Serving, Over}}
 use Rattle.disk_server.specs.declared.phase.Ended.TheVariants as by
 

@@ -2,10 +2,8 @@
 use Rattle.std.specs.{Io.KnownBytes.IsAtEnd, Prelude.{◌≡◌, ◌≢◌, ◌⊎◌, ℕ, ◌<◌, false, List, [], ◌++◌, length, take, Option}}
 use Rattle.pcm_io.specs.Faults.{Rose}
 use Rattle.nbd_frames.specs.{Numbers.{four, eight}, Options.{IsOption, are_known, option_bytes, option_magic}, Requests.{IsHeader, request_bytes, request_magic}}
-use Rattle.nbd_frames.specs.{declared.handshake.OptionHeader.OptionHeader, declared.request.RequestHeader.RequestHeader}
-use Rattle.nbd_frames.specs.declared.request.Command.TheVariants.{Disconnect}
-use Rattle.disk_server.specs.{Exchanges.payload_of, declared.phase.Ended.Ended, declared.phase.Phase.Phase}
-use Rattle.disk_server.specs.declared.phase.Phase.TheVariants.{Opening, Choosing, Serving, Over}
+use Rattle.nbd_frames.specs.{declared.handshake.OptionHeader.OptionHeader, declared.request.Command.TheVariants.Disconnect, declared.request.RequestHeader.RequestHeader}
+use Rattle.disk_server.specs.{Exchanges.payload_of, declared.phase.Ended.Ended, declared.phase.Phase.Phase, declared.phase.Phase.TheVariants.{Opening, Choosing, Serving, Over}}
 use Rattle.disk_server.specs.declared.phase.Ended.TheVariants as by
 
 -- some first bytes of a message, which isn't whole

@@ -1,9 +1,8 @@
 -- An option that is read is spelled so, and none is spelled as another.
 use Rattle.std.proofs.Common.{◌≡◌, ℕ, List, ◌++◌, length, take, drop, sym, ap, ◌∙◌, refl, arith}
-use Rattle.std.proofs.lemmas.{Bool.Decides.nat_tests, List.{length-drop, take_all}, Nat.from_be_bytes-to_be_bytes_4}
-use Rattle.nbd_frames.specs.{Numbers.{four, eight, four_at, eight_at}, Options.{IsOption, choice_code, choice_of, option_bytes, option_magic}}
-use Rattle.nbd_frames.specs.{declared.handshake.Choice.Choice, declared.handshake.OptionHeader.OptionHeader}
-use Rattle.nbd_frames.proofs.Spelling.{AreBytes, four_spelled, eight_spelled, parted}
+use Rattle.std.proofs.{lemmas.Bool.Decides.nat_tests, lemmas.List.{length-drop, take_all}, lemmas.Nat.from_be_bytes-to_be_bytes_4}
+use Rattle.nbd_frames.specs.{Numbers.{four, eight, four_at, eight_at}, Options.{IsOption, choice_code, choice_of, option_bytes, option_magic}, declared.handshake.Choice.Choice}
+use Rattle.nbd_frames.{specs.declared.handshake.OptionHeader.OptionHeader, proofs.Spelling.{AreBytes, four_spelled, eight_spelled, parted}}
 
 -- the option that bytes are
 abbrev pub option_of : List ℕ → OptionHeader

@@ -1,7 +1,6 @@
 -- A request that is read is spelled so, and none is spelled as another.
 use Rattle.std.proofs.Common.{◌≡◌, ℕ, zero, suc, List, ◌++◌, length, take, drop, sym, ap, ◌∙◌, refl, arith}
-use Rattle.std.proofs.lemmas.{List.take_all, Nat.{from_be_bytes-to_be_bytes_2, from_be_bytes-to_be_bytes_4, from_be_bytes-to_be_bytes_8}}
-use Rattle.std.proofs.lemmas.List.{length-drop}
+use Rattle.std.proofs.{lemmas.List.{take_all, length-drop}, lemmas.Nat.{from_be_bytes-to_be_bytes_2, from_be_bytes-to_be_bytes_4, from_be_bytes-to_be_bytes_8}}
 use Rattle.nbd_frames.specs.{Numbers.{two, four, two_at, four_at, eight_at}, Requests.{IsHeader, code_of, command_of, request_bytes, request_magic}}
 use Rattle.nbd_frames.specs.{declared.request.Command.Command, declared.request.RequestHeader.RequestHeader}
 use Rattle.nbd_frames.proofs.Spelling.{AreBytes, two_spelled, four_spelled, eight_spelled, parted}
@@ -26,7 +25,8 @@ request_of bytes = record {
 
 -- 28 bytes, by their fields
 fields : (bytes : List ℕ) → length bytes ≡ 28
-    → take 4 (drop 0 bytes) ++ (take 2 (drop 4 bytes) ++ (take 2 (drop 6 bytes) ++ (take 8 (drop 8 bytes) ++ (take 8 (drop 16 bytes) ++ take 4 (drop 24 bytes))))) ≡ bytes
+    → take 4 (drop 0 bytes) ++ (take 2 (drop 4 bytes) ++ (take 2 (drop 6 bytes)
+    ++ (take 8 (drop 8 bytes) ++ (take 8 (drop 16 bytes) ++ take 4 (drop 24 bytes))))) ≡ bytes
 fields bytes long =
     let last : take 4 (drop 24 bytes) ≡ drop 24 bytes = take_all 4 (drop 24 bytes) (omega (arith, length-drop 24 bytes)) in
     let at = ap (λ (t : List ℕ). take 8 (drop 16 bytes) ++ t) last ∙ parted 8 16 bytes in
@@ -46,7 +46,8 @@ request_spelled bytes long are magic =
     (eight_spelled bytes 16 (omega arith) are) (four_spelled bytes 24 (omega arith) are) ∙ fields bytes long)
 
 same_header : (f f' : ℕ) (c c' : Command) (k k' a a' s s' : ℕ) → f ≡ f' → c ≡ c' → k ≡ k' → a ≡ a' → s ≡ s'
-    → (let one : RequestHeader = record { flags = f; command = c; cookie = k; at = a; size = s } in one) ≡ record { flags = f'; command = c'; cookie = k'; at = a'; size = s' }
+    → (let one : RequestHeader = record { flags = f; command = c; cookie = k; at = a; size = s } in one)
+    ≡ record { flags = f'; command = c'; cookie = k'; at = a'; size = s' }
 same_header f f' c c' k k' a a' s s' p q r t u = cc
 
 pub request_again : (h : RequestHeader) → IsHeader h → request_of (request_bytes h) ≡ h
@@ -65,7 +66,8 @@ pub read_so : (bytes : List ℕ) (flags code cookie at size : ℕ) (command : Co
     → (let read : RequestHeader = record { flags = flags; command = command; cookie = cookie; at = at; size = size } in read) ≡ request_of bytes
 read_so bytes flags code cookie at size command p q r s t u = same_header flags _ command _ cookie _ at _ size _ p (q ∙ ap command_of r) s t u
 
-pub found_so : (bytes : List ℕ) (read : RequestHeader) → length bytes ≡ 28 → AreBytes bytes → four_at bytes 0 ≡ request_magic → read ≡ request_of bytes → bytes ≡ request_bytes read
+pub found_so : (bytes : List ℕ) (read : RequestHeader) → length bytes ≡ 28 → AreBytes bytes → four_at bytes 0 ≡ request_magic → read ≡ request_of bytes
+    → bytes ≡ request_bytes read
 found_so bytes read long are magic is = request_spelled bytes long are magic ∙ ap request_bytes (sym is)
 
 pub only_so : (bytes : List ℕ) (read header : RequestHeader) → read ≡ request_of bytes → IsHeader header → bytes ≡ request_bytes header → read ≡ header

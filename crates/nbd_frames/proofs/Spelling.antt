@@ -1,6 +1,7 @@
 -- Numbers that are read are spelled so.
 use Rattle.std.proofs.Common.{◌≡◌, ℕ, ◌+◌, ◌<◌, ◌≤◌, List, ◌++◌, length, get_or, take, drop, sym, ap, ◌∙◌, refl, inl, inr, arith}
-use Rattle.std.proofs.{lemmas.Bool.cases_lt, lemmas.List.{drop-drop, get_or-drop, get_or-take, get_or_past, length-drop, length-take, take-append-drop}, lemmas.Nat.{be_bytes_2, be_bytes_4, be_bytes_8}}
+use Rattle.std.proofs.{lemmas.Bool.cases_lt, lemmas.List.{drop-drop, get_or-drop, get_or-take, get_or_past, length-drop, length-take, take-append-drop}}
+use Rattle.std.proofs.lemmas.Nat.{be_bytes_2, be_bytes_4, be_bytes_8}
 use Rattle.nbd_frames.specs.Numbers.{two, four, eight, two_at, four_at, eight_at}
 
 -- each is below 256

@@ -1,7 +1,8 @@
 -- The bytes of the handshake: what a server says first, and the options that a client asks for.
 use Rattle.std.specs.Prelude.{◌≡◌, ℕ, ◌+◌, ◌*◌, ◌^◌, ◌<◌, ◌==◌, ◌&&◌, nat_le, nat_lt, Bool, if◌then◌else◌, List, [], ◌++◌, length, codes, replicate}
-use Rattle.nbd_frames.specs.{Numbers.{two, four, eight, two_at, four_at}, declared.handshake.OptionHeader.OptionHeader, declared.handshake.Reply.Reply as Kind}
-use Rattle.nbd_frames.specs.declared.{handshake.Choice.Choice, handshake.Choice.TheVariants.{ExportName, Abort, Exports, Info, Go, Other}}
+use Rattle.nbd_frames.specs.{Numbers.{two, four, eight, two_at, four_at}, declared.handshake.Choice.Choice}
+use Rattle.nbd_frames.specs.{declared.handshake.Choice.TheVariants.{ExportName, Abort, Exports, Info, Go, Other}, declared.handshake.OptionHeader.OptionHeader}
+use Rattle.nbd_frames.specs.declared.handshake.Reply.{Reply as Kind}
 use Rattle.nbd_frames.specs.declared.handshake.Reply.TheVariants as says
 
 -- IHAVEOPT, as a number
@@ -31,7 +32,8 @@ choice_code (Other code) = code
 -- the option with a number
 abbrev pub choice_of : ℕ → Choice
 choice_of code =
-    if code == 1 then ExportName else if code == 2 then Abort else if code == 3 then Exports else if code == 6 then Info else if code == 7 then Go else Other code
+    if code == 1 then ExportName else if code == 2 then Abort else if code == 3 then Exports else if code == 6 then Info
+    else if code == 7 then Go else Other code
 
 -- the 16 bytes in front of an option's data
 abbrev pub option_bytes : OptionHeader → List ℕ

@@ -1,7 +1,7 @@
 -- The bytes of requests and replies, once the client and the server have agreed.
 use Rattle.std.specs.Prelude.{◌≡◌, ℕ, zero, suc, ◌^◌, ◌<◌, List, ◌++◌, Option, Some, None}
-use Rattle.nbd_frames.specs.{Numbers.{two, four, eight}, declared.request.RequestHeader.RequestHeader, declared.replies.Failure.Failure}
-use Rattle.nbd_frames.specs.declared.{request.Command.Command, request.Command.TheVariants.{Read, Write, Disconnect, Flush, Other}}
+use Rattle.nbd_frames.specs.{Numbers.{two, four, eight}, declared.replies.Failure.Failure, declared.request.Command.Command}
+use Rattle.nbd_frames.specs.{declared.request.Command.TheVariants.{Read, Write, Disconnect, Flush, Other}, declared.request.RequestHeader.RequestHeader}
 use Rattle.nbd_frames.specs.declared.replies.Failure.TheVariants as why
 
 -- a command's number

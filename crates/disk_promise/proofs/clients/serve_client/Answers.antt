@@ -1,12 +1,11 @@
 use Rattle.std.proofs.Common.{ℕ, List, [], sym, subst}
-use Rattle.atomic_sectors.specs.Sectors.{Fits}
+use Rattle.atomic_sectors.specs.{Lines.stand, Sectors.Fits}
 use Rattle.disk_rules.specs.{declared.Answer.Answer, declared.Request.Request}
 use Rattle.disk_bytes.specs.Serving.{IsServed}
-use Rattle.atomic_sectors.specs.Lines.{stand}
 use Rattle.module_shape.specs.Limits.{total_of}
 use Rattle.disk_lines.specs.{Lines.writes_of, Serving.bytes_by_rows}
 use Rattle.disk_server.specs.Messages.{asked}
-use Rattle.disk_promise.{proofs.Keeping.new-served}
+use Rattle.disk_promise.proofs.Keeping.{new-served}
 use Rattle.disk_promise.proofs.clients.serve_client.Goals as goal
 
 pub returns-clause-session : goal.returns-clause-session

@@ -1,8 +1,7 @@
 use Rattle.std.proofs.Common.{◌≡◌, ℕ, List, [], ◌++◌, length, sym, subst, ◌∙◌}
 use Rattle.std.specs.Io.KnownBytes.{Appends}
 use Rattle.pcm_io.specs.Giving.{AppendsPrefix}
-use Rattle.nbd_frames.specs.{Numbers.four, Options.{info_replies, is_told, option_reply, replies_to}}
-use Rattle.nbd_frames.specs.declared.handshake.Choice.TheVariants.{Exports, Other}
+use Rattle.nbd_frames.specs.{Numbers.four, Options.{info_replies, is_told, option_reply, replies_to}, declared.handshake.Choice.TheVariants.{Exports, Other}}
 use Rattle.nbd_frames.specs.declared.handshake.Reply.TheVariants.{Ack, Invalid, Server, Unsupported}
 use Rattle.disk_server.proofs.{Moving.{err_so, ok_so}, Replying.{info_same, no_names, some_names, unknown}}
 use Rattle.disk_server.proofs.choosing.answer_option.Goals as goal

@@ -2,8 +2,7 @@ use Rattle.std.proofs.Common.{◌++◌, List, ℕ, refl, inr, arith, subst}
 use Rattle.std.proofs.lemmas.Result.{err_from_is_err_and}
 use Rattle.pcm_io.{specs.Taking.Takes, proofs.ByteLemmas.Takes-Takes}
 use Rattle.nbd_frames.specs.Options.{option_bytes}
-use Rattle.disk_server.specs.declared.phase.Phase.TheVariants.{Choosing}
-use Rattle.disk_server.proofs.Filling.{amid_before, amid_none, errs}
+use Rattle.disk_server.{specs.declared.phase.Phase.TheVariants.Choosing, proofs.Filling.{amid_before, amid_none, errs}}
 use Rattle.disk_server.proofs.choosing.receive_option.Goals as goal
 
 pub returns-in_err-told-clause-none : goal.returns-in_err-told-clause-none
@@ -11,7 +10,9 @@ returns-in_err-told-clause-none g c =
     let short = c.in_err-told.ensures.short in
     let ended = c.in_err-told.field-0.0 in
     let header = c.in-Some.header in
-    let front = subst (λ (bytes : List ℕ). Takes (g.S.Source.left c.args.source.now) (g.S.Source.left c.fill.new.source) (g.S.Source.taken c.args.source.now) (g.S.Source.taken c.fill.new.source) bytes)
+    let was = c.args.source.now in
+    let now = c.fill.new.source in
+    let front = subst (λ (bytes : List ℕ). Takes (g.S.Source.left was) (g.S.Source.left now) (g.S.Source.taken was) (g.S.Source.taken now) bytes)
     c.in-Some.ensures.found c.in_ok-fill.ensures.full in
     errs c.from_residual-in_err-told.result _ ended (err_from_is_err_and c.from_residual-in_err-told.result c.from_residual-in_err-told.ensures.1) (
       option_bytes header ++ short.0,

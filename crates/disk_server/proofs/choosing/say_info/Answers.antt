@@ -1,7 +1,6 @@
 use Rattle.std.proofs.Common.{◌≡◌, ℕ, List, [], false, length, sym, subst, ◌∙◌, arith}
 use Rattle.std.specs.Io.KnownBytes.{Appends}
-use Rattle.nbd_frames.specs.Options.{info_replies, is_told, option_reply}
-use Rattle.nbd_frames.specs.declared.handshake.Reply.TheVariants.{Invalid}
+use Rattle.nbd_frames.specs.{Options.{info_replies, is_told, option_reply}, declared.handshake.Reply.TheVariants.Invalid}
 use Rattle.disk_server.proofs.{Moving.ok_so, Replying.untold}
 use Rattle.disk_server.proofs.choosing.say_info.Goals as goal
 

@@ -9,11 +9,12 @@ loop-done-preserved g c =
     let old = c.loop-done.buffer in
     let piece = c.read.new.buf in
     let n = c.in-Ok.count in
+    let was = c.args.source.now in
     let now = c.read.new.self in
     let more = took_more done n (length old - done) old piece c.loop-done.invariant.within c.in-Ok.ensures.bound.0 in
     record {
       within = room_more done n (length old - done) old piece c.loop-done.invariant.within c.in-Ok.ensures.bound.0;
-      taken = subst (λ (bytes : List ℕ). Takes (g.S.Source.left c.args.source.now) (g.S.Source.left now) (g.S.Source.taken c.args.source.now) (g.S.Source.taken now) bytes) (sym more)
+      taken = subst (λ (bytes : List ℕ). Takes (g.S.Source.left was) (g.S.Source.left now) (g.S.Source.taken was) (g.S.Source.taken now) bytes) (sym more)
           (Takes-read _ _ _ _ _ _ _ piece n c.loop-done.invariant.taken c.in-Ok.ensures.bound.0 c.in-Ok.ensures.next.0 c.in-Ok.ensures.counted);
       faults = c.in-Ok.ensures.no_fault ∙ c.loop-done.invariant.faults;
     }

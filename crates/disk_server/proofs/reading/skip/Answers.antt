@@ -1,6 +1,6 @@
 use Rattle.std.proofs.Common.{◌≡◌, ◌<◌, ◌++◌, length, drop, ◌∙◌, arith}
-use Rattle.std.proofs.lemmas.{List.{length-append, length-drop, length-take-le}, Result.err_from_is_err_and}
-use Rattle.pcm_io.{proofs.ByteLemmas.Takes-Takes}
+use Rattle.std.proofs.{lemmas.List.{length-append, length-drop, length-take-le}, lemmas.Result.err_from_is_err_and}
+use Rattle.pcm_io.proofs.ByteLemmas.{Takes-Takes}
 use Rattle.disk_server.proofs.Filling.{amid_before, errs}
 use Rattle.disk_server.proofs.reading.skip.Goals as goal
 

@@ -3,8 +3,7 @@ use Rattle.std.specs.Prelude.{Result, Ok, Err}
 use Rattle.atomic_sectors.proofs.Stopping.{rose-none}
 use Rattle.disk_rules.specs.declared.Request.{Request}
 use Rattle.nbd_frames.specs.declared.replies.Failure.{Failure}
-use Rattle.disk_server.specs.{Answering.WritesOr, Exchanges.Brings}
-use Rattle.disk_server.proofs.Moving.{writes_or}
+use Rattle.disk_server.{specs.Answering.WritesOr, specs.Exchanges.Brings, proofs.Moving.writes_or}
 use Rattle.disk_server.proofs.requests.answer_request.Goals as goal
 
 pub returns-in-Ok-clause-answered : goal.returns-in-Ok-clause-answered

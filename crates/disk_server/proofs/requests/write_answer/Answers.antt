@@ -1,8 +1,7 @@
 use Rattle.std.proofs.Common.{◌≡◌, ℕ, List, ◌++◌, ap, ◌∙◌, subst}
-use Rattle.nbd_frames.specs.{Requests.reply_bytes, declared.replies.Failure.Failure}
 use Rattle.std.specs.Prelude.{Option}
-use Rattle.disk_server.specs.{Answering.WritesOr, Exchanges.{bytes_of, failure_of}}
-use Rattle.disk_server.proofs.Moving.{writes_or}
+use Rattle.nbd_frames.specs.{Requests.reply_bytes, declared.replies.Failure.Failure}
+use Rattle.disk_server.{specs.Answering.WritesOr, specs.Exchanges.{bytes_of, failure_of}, proofs.Moving.writes_or}
 use Rattle.disk_server.proofs.requests.write_answer.Goals as goal
 
 pub returns-clause-written : goal.returns-clause-written

@@ -1,7 +1,6 @@
 use Rattle.std.proofs.Common.{◌≡◌, List, length}
 use Rattle.disk_bytes.specs.Parts.{IsReady}
-use Rattle.disk_server.specs.{Messages.{Message, phase_of}, Sessions.seen}
-use Rattle.disk_server.proofs.Messages.{Has}
+use Rattle.disk_server.{specs.Messages.{Message, phase_of}, specs.Sessions.seen, proofs.Messages.Has}
 use Rattle.disk_server.proofs.session.serve.Given as goal
 
 abbrev pub invariant-loop-message : goal.invariant-loop-message

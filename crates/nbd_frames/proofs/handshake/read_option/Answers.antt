@@ -1,6 +1,5 @@
 use Rattle.std.proofs.Common.{Some, sym, ap, ◌∙◌}
-use Rattle.nbd_frames.specs.declared.handshake.OptionHeader.{OptionHeader}
-use Rattle.nbd_frames.proofs.Options.{found_so, only_so, read_so}
+use Rattle.nbd_frames.{specs.declared.handshake.OptionHeader.OptionHeader, proofs.Options.{found_so, only_so, read_so}}
 use Rattle.nbd_frames.proofs.handshake.read_option.Goals as goal
 
 pub returns-clause-found : goal.returns-clause-found

@@ -1,6 +1,5 @@
 use Rattle.std.proofs.Common.{Some, sym, ap, ◌∙◌}
-use Rattle.nbd_frames.specs.declared.request.RequestHeader.{RequestHeader}
-use Rattle.nbd_frames.proofs.Requests.{found_so, only_so, read_so}
+use Rattle.nbd_frames.{specs.declared.request.RequestHeader.RequestHeader, proofs.Requests.{found_so, only_so, read_so}}
 use Rattle.nbd_frames.proofs.request.read_request.Goals as goal
 
 pub returns-clause-found : goal.returns-clause-found
