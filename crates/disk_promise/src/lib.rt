@@ -14,7 +14,10 @@ ghost use Rattle.disk_lines.specs.Asking.{HasHeard, stops_at};
 ghost use Rattle.disk_lines.specs.Lines.{writes_of};
 ghost use Rattle.disk_promise.specs.Keeping.{DiskLaw, IsDiskKept};
 
+mod clients;
+
 use cell_rows::CellArray;
+pub use clients::serve_client;
 use disk_bytes::Disk;
 use disk_lines::PcmLines;
 use disk_rules::{Answer, Request, lines_that_agree_are_one_disk, new_lines_are_a_new_disk};
