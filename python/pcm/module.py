@@ -5,7 +5,7 @@ from types import TracebackType
 from typing import IO, Dict, Iterable, Iterator, List, Optional, Sequence, Type, Union
 
 from .errors import TraceError, UsageError
-from .linked import Linked, Unlinked, library
+from .linked import Linked
 from .outcomes import Backlog, Outcome, Shape, Wear
 from .program import Program, command, words_of
 from .randomiser import Randomiser
@@ -17,10 +17,10 @@ from .words import LARGE, LATEST_TICK, Handed, wrong_row
 class Module:
     """A phase-change memory module: behind a pipe, or in this process.
 
-    `way` says which: `"program"`, or `"library"`, libpcm.so.1, with the same answers; else the environment's PCM_WAY does. Where neither does it is
-    the library, where it is built, installed, in the wheel or named by PCM_LIBRARY and can do what is asked for, and no program is named. The library
-    makes no copies and tells no wear, its options are those of a module (and `end="drain"`, `tell`), it knows from the start which lines there are,
-    and no call of it waits, so `progress` tells nothing.
+    `way` says which: `"program"`, or `"library"`, libpcm.so.1, with the same answers; else the environment's PCM_WAY does, where no program is
+    named; else it is the program. The library is the one that PCM_LIBRARY names, or else is in the wheel, built or installed. It makes no copies
+    and tells no wear, its options are those of a module (and `end="drain"`, `tell`), it knows from the start which lines there are, and no call of
+    it waits, so `progress` tells nothing.
 
     Rows are numbered from 1 in the order in which they are handed in; each call answers its row's number. Outcomes come from `settle`,
     `settle_until`, `finish` and `outcomes`, each once, in the order in which they become known. Rows may be handed in at any rate and
@@ -77,24 +77,19 @@ class Module:
     def _opened(
         self, way: Optional[str], program: Program, progress: Optional[bool], copies: Union[bool, str], options: Dict[str, object]
     ) -> Union[Linked, Streamed]:
-        """The module, by the way that is asked for, or else by the library where it is there and can be asked for all this."""
+        """The module, by the way that is asked for, or else by the program."""
         named = program is not None or bool(copies)
-        asked = way or (None if named else os.environ.get("PCM_WAY")) or ("program" if named or os.environ.get("PCM") else None)
-        if asked not in (None, "library", "program"):
+        asked = way or (None if named else os.environ.get("PCM_WAY")) or "program"
+        if asked not in ("library", "program"):
             raise ValueError(f"a module's way is library or program, not {asked!r}")
         if asked == "library" and copies:
             raise ValueError("the library makes no copies of a module: way=\"program\" does")
-        if asked == "library" or (asked is None and library() is not None):
-            try:
-                linked = Linked(options)
-            except (Unlinked, UsageError, OSError):
-                if asked == "library":
-                    raise
-            else:
-                self._lines = linked.shape.banks * linked.shape.regions * linked.shape.lines
-                if self._tells_shape:
-                    self._learn(linked.shape)
-                return linked
+        if asked == "library":
+            linked = Linked(options)
+            self._lines = linked.shape.banks * linked.shape.regions * linked.shape.lines
+            if self._tells_shape:
+                self._learn(linked.shape)
+            return linked
         return Streamed(command("stream", program), words_of(options), progress, copies, self._learn)
 
     def _learn(self, shape: Shape) -> None:

@@ -192,20 +192,15 @@ class Ways(unittest.TestCase):
         with mock.patch.dict(os.environ, {**kept, **environment}, clear=True), pcm.Module(**options) as module:
             return {Linked: "library", Streamed: "program"}[type(module._way)]
 
-    def test_the_library_is_taken_where_it_is_there(self):
+    def test_the_library_is_taken_where_it_is_asked_for(self):
         program = pcm.program()
-        self.assertEqual("library", self.way({}))
+        self.assertEqual("program", self.way({}))
         self.assertEqual("program", self.way({"PCM": program[0]}))
         self.assertEqual("program", self.way({}, program=program))
-        self.assertEqual("program", self.way({"PCM_WAY": "program"}))
+        self.assertEqual("library", self.way({"PCM_WAY": "library"}))
         self.assertEqual("library", self.way({"PCM": program[0], "PCM_WAY": "library"}))
         self.assertEqual("program", self.way({"PCM_WAY": "library"}, program=program))
         self.assertEqual("library", self.way({"PCM_WAY": "program"}, way="library"))
-
-    def test_the_program_does_what_the_library_does_not(self):
-        for options in ({"end": "off"}, {"input": "drawn", "rows": 5}, {"rows": 5}, {"copies": True}):
-            self.assertEqual("program", self.way({"PCM_LIBRARY": library()}, **options))
-        self.assertEqual("program", self.way({"PCM_LIBRARY": "/nowhere/libpcm.so.1"}))
 
     def test_modules_side_by_side_share_nothing(self):
         draws = [random.Random(1), random.Random(2)]
@@ -227,7 +222,7 @@ class Ways(unittest.TestCase):
                 wheel.extractall(folder)
                 self.assertIn("Root-Is-Purelib: false", wheel.read(f"pcm-{pcm.__version__}.dist-info/WHEEL").decode())
             around = {name: value for name, value in os.environ.items() if not name.startswith("PCM")}
-            code = "import pcm; print(pcm.Module()._way.settle(1, 'S', 7, 0), pcm.linked.library())"
+            code = "import pcm; print(pcm.Module(way='library')._way.settle(1, 'S', 7, 0), pcm.linked.library())"
             said = subprocess.run([sys.executable, "-c", code], cwd=folder, stdout=subprocess.PIPE, text=True, check=True, env=around).stdout
             self.assertEqual(f"7 {folder}/pcm/libpcm.so.1\n", said)
 
