@@ -1,0 +1,4 @@
+mod Reading
+mod Tables
+mod Fitting
+mod Ticks
