@@ -210,7 +210,11 @@ def beside(command, option, text):
         return ["--hi", "4000000000"]
     if option == "hi":
         return ["--lo", "1"]
-    if option == "cuts":
+    if command == "disk" and option == "sector":
+        return ["--banks", "16"]
+    if command == "disk" and option in ("banks", "regions", "lines"):
+        return ["--sector", "64", *(["--lines", "4"] if option != "lines" else ["--banks", "1", "--regions", "1"])]
+    if option == "cuts" and command != "disk":
         return ["--rows", "400000" if command != "stream" else "4000000000", "--step", "0"]
     if option == "rows":
         return ["--step", "0"]

@@ -19,7 +19,7 @@ LATEST_TICK = 2**40
 
 class Option(NamedTuple):
     """An option of a command: what stands for its value, its default, and what it may be: a number from `least` to `most`, a power of two
-    where `power`, or one of some words or numbers."""
+    where `power`, rising ones with commas between them where `listed`, or one of some words or numbers."""
 
     name: str
     value: str
@@ -29,6 +29,7 @@ class Option(NamedTuple):
     most: int = 0
     power: bool = False
     choices: Tuple[str, ...] = ()
+    listed: bool = False
 
     @property
     def is_number(self) -> bool:
@@ -39,12 +40,15 @@ class Option(NamedTuple):
         """What a value may be, in words."""
         if self.choices:
             return either(self.choices)
-        return f"{'a power of two, ' * self.power}{self.least} to {self.most}"
+        return f"{'a power of two, ' * self.power}{'rising numbers with commas between them, ' * self.listed}{self.least} to {self.most}"
 
     def takes(self, text: str) -> bool:
         """Whether the program takes this value."""
         if self.choices:
             return text in self.choices
+        if self.listed:
+            rising = [int(it) if re.fullmatch(r"[0-9]{1,20}", it) else -1 for it in text.split(",")]
+            return self.least <= rising[0] and rising[-1] <= self.most and all(one < other for one, other in zip(rising, rising[1:]))
         if not re.fullmatch(r"[0-9]{1,20}", text):
             return False
         number = int(text)
@@ -144,6 +148,14 @@ _STREAM = [
     _number("first-bank", "A", 0, 0, 63, "first bank whose drawn rows are served"),
     _number("last-bank", "B", 63, 0, 63, "last bank whose drawn rows are served"),
 ]
+_DISK = [
+    _power("sector", "BYTES", 4096, 64, 16384, "bytes of a sector that no power cut tears"),
+    _number("cuts", "N", 0, 0, 1000000, "power cuts at drawn ticks"),
+    _number("cut-every", "T", 10000, 1, 2**38, "ticks from a drawn cut to the next, about"),
+    _number("cut-seed", "X", 1, 0, 2**64 - 1, "draws the ticks of cuts"),
+    Option("cut-ticks", "T,T,..", "", "ticks of power cuts", 1, LATEST_TICK, listed=True),
+    _choice("on-cut", "O", "what becomes of a request that a cut ends", "drop", "ride"),
+]
 _FROM = _number("from", "T", 0, 0, 16781312, "gap moves that were made before")
 
 
@@ -157,6 +169,7 @@ def _those(*names: str) -> Dict[str, Option]:
 
 _SIZES = ("banks", "regions", "lines")
 _CHECKED = ("write-queue", "read-queue", "read-ticks", "iter-ticks", "policy", "registers")
+_MODULE = {it.name: _named(_STREAM).get(it.name, it) for it in _RUN if it.name not in ("input", "print")}
 _CHECK = _those(*_SIZES, "line", "spares", "seed", *_CHECKED)
 COMMANDS = {
     it.name: it
@@ -170,10 +183,11 @@ COMMANDS = {
         Command("stream", "replays a trace as it comes", "< TRACE", {**_named([*_RUN, *_DRAWN]), **_named(_STREAM)}),
         Command("explain", "checks results, and explains what breaks a rule", "< TRACE-AND-RESULTS", _CHECK),
         Command("view", "prints the newest bytes of a saved large module", "< IMAGE", {}),
+        Command("disk", "serves a module as a disk, to one client", "", {**_MODULE, **_named(_DISK)}),
     )
 }
 # Those that are programs of their own, beside the one that has the others.
-ALONE = ("stream", "explain", "view")
+ALONE = ("stream", "explain", "view", "disk")
 # What stands behind a command without a value: the wrapper takes all but those that the program itself does.
 FLAGS = {
     **dict.fromkeys(("run", "stream"), {"progress": "tells how far it is"}),
@@ -257,6 +271,8 @@ def _bad_value(command: Command, option: Option, text: str) -> str:
     if option.choices:
         others = [it.name for it in COMMANDS.values() if option.name in it.options and text in it.options[option.name].choices]
         return f"{said}: it may be {option.range()}" + (f" ({text} is for {either(others)})" if others else near(text, option.choices))
+    if option.listed:
+        return f"{said}: it may be {option.range()}"
     if not re.fullmatch(r"[0-9]{1,20}", text):
         return f"{said}: it may be a number of decimal digits alone, {option.range()}"
     number = int(text)
@@ -266,19 +282,34 @@ def _bad_value(command: Command, option: Option, text: str) -> str:
     return f"{said}: it may be {option.range()}"
 
 
+def _wrong_disk(value: Dict[str, str], given: Dict[str, str]) -> Optional[str]:
+    """The same of a disk's own."""
+    sector, line = int(value["sector"]), int(value["line"])
+    lines = int(value["banks"]) * int(value["regions"]) * int(value["lines"])
+    if sector < line:
+        return f"--sector {sector} is below --line {line}"
+    if lines <= 2 * (sector // line):
+        return f"--sector {sector}: a module of {lines} lines has no room for one, another to write it to, and their map"
+    if "cuts" in given and "cut-ticks" in given:
+        return "--cuts draws the ticks of power cuts, and --cut-ticks names them: give one of the two"
+    return None
+
+
 def _together(command: Command, given: Dict[str, str]) -> Optional[str]:
     """What is wrong with values that are right each by itself."""
     value = {name: given.get(name, it.default) for name, it in command.options.items()}
-    streams = command.name == "stream"
+    streams, large = command.name == "stream", command.name in ("stream", "disk")
     if "hi" in value and int(value["hi"]) < int(value["lo"]):
         default = [f"--{name} {value[name]} (its default)" if name not in given else f"--{name} {value[name]}" for name in ("hi", "lo")]
         return f"{default[0]} is below {default[1]}: give both, --lo not above --hi"
     if "banks" in value:
         banks, regions, lines = (int(value[name]) for name in _SIZES)
-        most = (LARGE if streams else SMALL).all_lines
+        most = (LARGE if large else SMALL).all_lines
         if banks * regions * lines > most:
             told = f"banks x regions x lines are {banks * regions * lines}: a module of {command.name} has at most {most} lines"
-            return told + ("" if streams else _larger(command, {name: value[name] for name in _SIZES}))
+            return told + ("" if large else _larger(command, {name: value[name] for name in _SIZES}))
+    if "sector" in value:
+        return _wrong_disk(value, given)
     if "cuts" in value and int(value["cuts"]) > int(value["rows"]):
         return f"--cuts {value['cuts']} are more than --rows {value['rows']}"
     if streams and int(value["rows"]) * int(value["step"]) > LATEST_TICK:

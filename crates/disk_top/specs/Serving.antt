@@ -1,0 +1,49 @@
+-- What was served to a client.
+use Rattle.std.specs.Prelude.{◌≡◌, ℕ, List, [], Option}
+use Rattle.cell_rows.specs.Device.{ArrayState}
+use Rattle.disk_lines.specs.{Asking.HasHeard, Lines.OnModule}
+use Rattle.disk_promise.specs.{Clients.{made_on, stops_on}, Keeping.IsDiskKept}
+use Rattle.disk_server.specs.{Messages.asked, Sessions.{IsSession, Seen}, declared.answering.OnCut.OnCut, declared.phase.Ended.Ended}
+use Rattle.disk_server.specs.declared.answering.OnCut.TheVariants as mode
+use Rattle.disk_words.specs.{declared.job.DiskPlan.DiskPlan, declared.job.OnCut.OnCut as Told, declared.job.OnCut.TheVariants.{Drop, Ride}}
+
+-- what becomes of a request that a power cut stops
+abbrev pub mode_of : Told → OnCut
+mode_of Drop = mode.Drop
+mode_of Ride = mode.Ride
+
+-- what is seen of a client's source and sink
+pub record Shown : Type 0 where
+  pub left : Option (List ℕ)
+  pub taken : ℕ
+  pub unread : ℕ
+  pub written : Option (List ℕ)
+  pub unwritten : ℕ
+
+abbrev pub shown : {S K : Type 0} → (S → Option (List ℕ)) → (S → ℕ) → (S → ℕ) → (K → Option (List ℕ)) → (K → ℕ) → S → K → Shown
+shown left taken unread written unwritten source sink =
+    record { left = left source; taken = taken source; unread = unread source; written = written sink; unwritten = unwritten sink }
+
+module _ {n m e : ℕ} {S : Type 0} where
+  -- and of the lines of a disk beside them
+  abbrev pub seen_with : Shown → OnModule n m e S → Seen
+  seen_with at lines = record {
+    left = at.left;
+    taken = at.taken;
+    unread = at.unread;
+    written = at.written;
+    unwritten = at.unwritten;
+    made = made_on lines;
+    stops = stops_on lines;
+  }
+
+  -- a client was served by a disk that lay on a new module of these sizes and this seed: what it was answered, byte for byte, is what a disk of bytes answers
+  -- to its messages; and each byte that was acknowledged is kept in the module that is left, in its array or in a protected queue
+  pub record HasServed (state : S → ArrayState n m) (plan : DiskPlan) (was now : Shown) (last : OnModule n m e S) (ended : Ended) : Type 0 where
+    pub first : OnModule n m e S
+    pub shape : first.module_.shape ≡ plan.shape
+    pub seed : first.module_.seed ≡ plan.seed
+    pub new : (first.heard ≡ []) × (first.puts ≡ [])
+    pub session : IsSession n plan.layout (mode_of plan.on_cut) (seen_with was first) (seen_with now last) ended
+    pub has : HasHeard last.module_ (state last.array) last.heard
+    pub kept : IsDiskKept last.module_ (state last.array) last.heard plan.layout (asked session.messages [])

@@ -1,0 +1,109 @@
+// How a call of the program ends, and what it says then.
+ghost use Rattle.std.specs.Prelude.{◌≡◌};
+ghost use Rattle.program_calls.specs.Calls.{lent_sink};
+ghost use Rattle.disk_top.specs.Outcomes.{IsStatusOf, fault_in, fault_line, fault_of, status_of};
+
+use disk_server::Ended;
+use pcm_io::{Sink, write_all};
+
+/// How a call of the program ends.
+#[derive(Clone, Copy, PartialEq, Eq)]
+pub enum Outcome {
+    /// A client was served, up to this end.
+    Served(Ended),
+    /// The words ask for nothing.
+    Usage,
+    /// Memory ran out before the client was served.
+    NoMemory,
+}
+
+/// Why a call of the program ends without its work done.
+#[derive(Clone, Copy, PartialEq, Eq)]
+pub enum Fault {
+    /// The words ask for nothing.
+    Usage,
+    /// The client's bytes ended amid a message.
+    CutOff,
+    /// The client's bytes begin no message.
+    NoMessage,
+    /// The source couldn't be read.
+    Read,
+    /// The output couldn't be written.
+    Write,
+    /// There are too many messages.
+    TooLong,
+    /// Memory ran out.
+    NoMemory,
+}
+
+impl Fault {
+    /// The status of the program for it.
+    pub fn status(self) -> u8
+        ensures { result ≡ status_of self }
+    {
+        match self {
+            Fault::Usage => 2,
+            Fault::CutOff | Fault::NoMessage => 3,
+            Fault::Read => 4,
+            Fault::Write => 5,
+            Fault::TooLong => 6,
+            Fault::NoMemory => 7,
+        }
+    }
+
+    // The line that is written for it.
+    fn line(self) -> &'static [u8]
+        ensures { result.now ≡ fault_line self }
+    {
+        match self {
+            Fault::Usage => b"usage: pcm disk [options]\n",
+            Fault::CutOff => b"message cut off\n",
+            Fault::NoMessage => b"no message\n",
+            Fault::Read => b"read fault\n",
+            Fault::Write => b"write fault\n",
+            Fault::TooLong => b"too many messages\n",
+            Fault::NoMemory => b"out of memory\n",
+        }
+    }
+}
+
+// Why a client's session isn't done, where it isn't.
+fn fault_of(ended: Ended) -> Option<Fault>
+    ensures { result ≡ fault_of ended }
+{
+    match ended {
+        Ended::Left | Ended::Closed => None,
+        Ended::Broken => Some(Fault::CutOff),
+        Ended::Strange => Some(Fault::NoMessage),
+        Ended::Unread => Some(Fault::Read),
+        Ended::Unwritten => Some(Fault::Write),
+        Ended::Endless => Some(Fault::TooLong),
+    }
+}
+
+impl Outcome {
+    // Why its work isn't done, where it isn't.
+    fn fault(self) -> Option<Fault>
+        ensures { result ≡ fault_in self }
+    {
+        match self {
+            Outcome::Served(ended) => fault_of(ended),
+            Outcome::Usage => Some(Fault::Usage),
+            Outcome::NoMemory => Some(Fault::NoMemory),
+        }
+    }
+}
+
+/// The status of how a call ended, after the line of its fault was written, if it has one; that of a
+/// fault of writing where the line couldn't be.
+pub(crate) fn say<F: Sink>(outcome: Outcome, err: &mut F) -> u8
+    ensures { IsStatusOf (fault_in outcome) (lent_sink F.written F.faults err.old err.new) result }
+{
+    match outcome.fault() {
+        None => 0,
+        Some(fault) => match write_all(err, fault.line()) {
+            Ok(()) => fault.status(),
+            Err(_) => Fault::Write.status(),
+        },
+    }
+}
