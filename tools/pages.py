@@ -92,7 +92,7 @@ def manual():
 
 
 def manual_of(name):
-    """pcm-stream(1), pcm-explain(1) and pcm-view(1), of the commands that are programs of their own."""
+    """pcm-stream(1), pcm-explain(1), pcm-view(1) and pcm-disk(1), of the commands that are programs of their own."""
     command = table().COMMANDS[name]
     about = ENVIRONMENT if name == "stream" else ENVIRONMENT[:1]
     parts = [("DESCRIPTION", section(f"pcm {name}")), ("ENVIRONMENT", about), ("SEE ALSO", ["`pcm`(1)"])]

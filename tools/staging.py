@@ -4,7 +4,7 @@
     libexec/pcm/                the programs
     share/pcm/                  README.md, docs/, examples/, c/ and python/pcm as in the repository, VERSION, and a link pcm to the wrapper: so links
                                 lead on, and in a copy of it each recipe works as it is written
-    share/man/man1/             pcm.1, pcm-stream.1, pcm-explain.1, pcm-view.1 and pcm-parts.1
+    share/man/man1/             pcm.1, pcm-stream.1, pcm-explain.1, pcm-view.1, pcm-disk.1 and pcm-parts.1
     share/bash-completion/completions/pcm, share/zsh/site-functions/_pcm
     include/                    pcm_stream.h, pcm_disk.h and their like, for drivers in C and C++, and for SystemC
     bin/cut-firmware            with lib/pcm/pcm_copy.so and cut-firmware.1, where they could be built

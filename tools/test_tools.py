@@ -110,9 +110,9 @@ def crates_below(top): return [Crate(it) for it in os.listdir(f"{top}/crates")]
 # The code of a static library, and what it asks of the kit's own archive.
 STATIC = "void *rattle_alloc(unsigned long);\nint pcm_module_rows(void *it) { return it ? 7 : rattle_alloc(1) != 0; }\nint inside(void) { return 1; }\n"
 HEAP = "#include <stdlib.h>\nvoid *rattle_alloc(unsigned long size) { return malloc(size); }\n"
-CRATES = "# 1. PARTS\nfirst:\nsecond: first\n# 2. PROGRAMS\npcm_cli: second\npcm_stream: first\npcm_explain: second\npcm_view: second\n"
+CRATES = "# 1. PARTS\nfirst:\nsecond: first\n# 2. PROGRAMS\npcm_cli: second\npcm_stream: first\npcm_explain: second\npcm_view: second\npcm_disk: first\n"
 HAS_COMPILER = bool(shutil.which("cc") and shutil.which("ar"))
-PROGRAMS = ("pcm_cli", "pcm_stream", "pcm_explain", "pcm_view")
+PROGRAMS = ("pcm_cli", "pcm_stream", "pcm_explain", "pcm_view", "pcm_disk")
 
 
 def setUpModule():
@@ -478,6 +478,7 @@ class Wrapper(unittest.TestCase):
         self.assertEqual(self.room.run("pcm", "stream", "--psi", "5").stdout, "pcm_stream --psi 5\n")
         self.assertEqual(self.room.run("pcm", "explain", "--spares", "5").stdout, "pcm_explain --spares 5\n")
         self.assertEqual(self.room.run("pcm", "view").stdout, "pcm_view\n")
+        self.assertEqual(self.room.run("pcm", "disk", "--sector", "512").stdout, "pcm_disk --sector 512\n")
 
     def test_it_runs_through_a_link_and_by_the_search_path(self):
         os.symlink(self.room.top / "pcm", self.room.folder / "a link")
@@ -490,7 +491,7 @@ class Wrapper(unittest.TestCase):
 
     def test_it_tells_where_the_programs_are(self):
         self.assertEqual(self.room.run("pcm", "path").stdout, f"{self.room.top}/crates/pcm_cli/out/pcm_cli\n")
-        for word in ("stream", "explain", "view"):
+        for word in ("stream", "explain", "view", "disk"):
             self.assertEqual(self.room.run("pcm", "path", word).stdout, f"{self.room.top}/crates/pcm_{word}/out/pcm_{word}\n")
         done = self.room.run("pcm", "path", "gen")
         self.assertEqual((done.returncode, done.stdout, len(done.stderr.splitlines())), (2, "", 1))
@@ -647,7 +648,7 @@ class Installed(unittest.TestCase):
                     named = os.path.normpath(os.path.join(os.path.dirname(path), target))
                     self.assertTrue(named in tree or any(it.startswith(f"{named}/") for it in tree), f"{path}: {target}")
         self.assertIn("share/pcm/docs/USING.md", self.pcm("help").stdout)
-        told = [self.pcm("help", it).stdout for it in ("run", "stream", "check", "explain", "view", "parts")]
+        told = [self.pcm("help", it).stdout for it in ("run", "stream", "check", "explain", "view", "disk", "parts")]
         self.assertEqual([it.count("./pcm") for it in told], [0] * len(told))
         self.assertIn("usage: python3 -m pcm parts [TRACE]", told[-1])
         self.assertEqual(self.pcm("parts", "--help").stdout, told[-1])
@@ -935,7 +936,7 @@ class Pages(unittest.TestCase):
     def test_bash_completes_commands_options_and_values(self):
         wanted = {
             "pcm st": ["stream"], "pcm run --pol": ["--policy"], "pcm run --policy c": ["cancel"], "pcm run --policy = c": ["cancel"],
-            "pcm run --psi 5 --ps": [], "pcm help mo": ["moves"], "pcm path ": ["stream", "explain", "view"], "pcm stream --print s": ["summary", "snapshots"],
+            "pcm run --psi 5 --ps": [], "pcm help mo": ["moves"], "pcm path ": ["stream", "explain", "view", "disk"], "pcm stream --print s": ["summary", "snapshots"],
             "pcm run --print s": ["summary"], "pcm run --psi ": [], "pcm show ": ["--help"], "pcm run --banks 1": ["1", "16"],
             "pcm e": ["explain"], "pcm explain --p": ["--policy"], "pcm explain --policy c": ["cancel"], "pcm explain --a": ["--all"],
             "pcm explain --all --a": [], "pcm explain --all --li": ["--lines", "--line"], "pcm stream --pro": ["--progress"],
@@ -957,7 +958,7 @@ class Words(unittest.TestCase):
             "run --lines 100": "--lines 100: it may be a power of two, 4 to 4096; nearest are 64 and 128",
             "run --psi 1 --psi=2": "--psi stands twice",
             "run --psi": "--psi lacks its value: it may be 1 to 65535",
-            "gen --psi 3": "--psi is no option of gen, but of run or stream",
+            "gen --psi 3": "--psi is no option of gen, but of run, stream or disk",
             "run --print rows": "--print rows: it may be results, summary, wear or image (rows is for stream)",
             "stream --every 5": "--every belongs to --print snapshots alone",
             "stream --tell shape --print wear": "--tell belongs to --print rows alone",
@@ -967,7 +968,7 @@ class Words(unittest.TestCase):
             "stream --print lines --skip pulsed": "--skip pulsed: it may be nothing or unpulsed (did you mean unpulsed?)",
             "rum": "there is no command rum (did you mean run?)",
             "explian": "there is no command explian (did you mean explain?)",
-            "explain --psi 5": "--psi is no option of explain, but of run or stream",
+            "explain --psi 5": "--psi is no option of explain, but of run, stream or disk",
             "explain --al": "--al is no option of explain (did you mean --all?)",
             "explain --all=3": "--all=3: --all has no value",
             "check --all": "--all is no option of check, but of explain",
@@ -984,6 +985,15 @@ class Words(unittest.TestCase):
             "check --lines 8192": "--lines 8192: it may be a power of two, 4 to 4096",
             "stream --banks 64 --regions 64 --lines 32768":
                 "banks x regions x lines are 134217728: a module of stream has at most 67108864 lines",
+            "disk --rows 5": "--rows is no option of disk, but of run, gen or stream",
+            "disk --sector 100": "--sector 100: it may be a power of two, 64 to 16384; nearest are 64 and 128",
+            "disk --sector 64 --line 128": "--sector 64 is below --line 128",
+            "disk --sector 16384 --banks 1 --regions 1":
+                "--sector 16384: a module of 64 lines has no room for one, another to write it to, and their map",
+            "disk --cuts 3 --cut-ticks 5": "--cuts draws the ticks of power cuts, and --cut-ticks names them: give one of the two",
+            "disk --cut-ticks 5,5": "--cut-ticks 5,5: it may be rising numbers with commas between them, 1 to 1099511627776",
+            "disk --on-cut stop": "--on-cut stop: it may be drop or ride",
+            "disk --lines 8192 --cut-ticks 5,6 --on-cut ride": None,
             "run": None,
             "stream --print snapshots --every 5 --rows=4000000000 --step 0 --input drawn": None,
             "stream --print wear --skip=unpulsed": None,
@@ -1109,7 +1119,7 @@ class Tested(unittest.TestCase):
         for path, does in (
             ("tools/lint", counts), ("tools/test_tools.py", "echo 'Ran 3 tests in 0s'"), ("docs/test_checking.py", "echo 'Ran 4 tests in 0s'"),
             ("docs/check", f'printf "documents: %s\\n" "$*"; {counts}'), ("examples/check", f'printf "examples:"; printf " (%s)" "$@"; echo; {counts}'),
-            ("examples/library/check", f'printf "library: %s\\n" "$*"; {counts}'), ("tools/wrong", "echo '1 crates to be tried: low'; exit 1"),
+            ("examples/library/check", f'printf "library: %s\\n" "$*"; {counts}'), ("examples/disk/check", f'printf "disk: %s\\n" "$*"; {counts}'), ("tools/wrong", "echo '1 crates to be tried: low'; exit 1"),
         ):
             (self.top / path).parent.mkdir(exist_ok=True)
             Room.script(self.top / path, f"#!/bin/sh\n{does}\n")
@@ -1128,21 +1138,21 @@ class Tested(unittest.TestCase):
         (self.top / "crates" / "pcm_c" / "out").mkdir(parents=True)
         (self.top / "crates" / "pcm_c" / "out" / "libpcm.so.1").touch()
         files = [f"crates/{name}/out/{name}" for name in PROGRAMS]
-        told = [f"documents: {files[0]}", f"examples: {' '.join(f'({it})' for it in files)}", "tools/test: wrong bodies of wrong/: 1 crates to be tried: low"]
+        told = [f"documents: {files[0]}", f"examples: {' '.join(f'({it})' for it in files[:4])}", f"disk: {files[4]}", "tools/test: wrong bodies of wrong/: 1 crates to be tried: low"]
         library = f"library: {files[1]}"
-        self.says(library, *told, "15 passed, 0 failed")
+        self.says(library, *told, "17 passed, 0 failed")
         (self.top / "crates" / "low" / "src" / "lib.rt").write_text("")
         os.utime(self.top / "crates" / "low" / "src" / "lib.rt", (2**31, 2**31))
         old = [f"tools/test: {it} is older than some text: it is tried as it is" for it in (*files, "crates/pcm_c/out/libpcm.so.1")]
-        self.says(*old, library, *told, "15 passed, 0 failed")
+        self.says(*old, library, *told, "17 passed, 0 failed")
 
     def test_without_some(self):
         self.build("pcm_cli", "pcm_explain")
-        lacks = [f"tools/test: what wants {it}: skipped: it isn't built (tools/build {it})" for it in ("pcm_stream", "pcm_view")]
+        lacks = [f"tools/test: what wants {it}: skipped: it isn't built (tools/build {it})" for it in ("pcm_stream", "pcm_view", "pcm_disk")]
         lacks.append("tools/test: what wants libpcm: skipped: it isn't built (tools/build library)")
         lacks.append("tools/test: commands that documents show: skipped: not all programs are built")
         told = ["documents: ", "examples: (crates/pcm_cli/out/pcm_cli) () (crates/pcm_explain/out/pcm_explain) ()"]
-        self.says(*lacks, *told, "tools/test: wrong bodies of wrong/: 1 crates to be tried: low", "13 passed, 0 failed, 4 skipped")
+        self.says(*lacks, *told, "tools/test: wrong bodies of wrong/: 1 crates to be tried: low", "13 passed, 0 failed, 5 skipped")
 
 
 class Counting(unittest.TestCase):
