@@ -1,5 +1,5 @@
 -- A masked write that gives some bytes, with 0 for the others.
-use Rattle.std.proofs.Common.{◌≡◌, ℕ, zero, suc, Bool, true, List, [], length, replicate, refl, ◌∙◌, subst, sym}
+use Rattle.std.proofs.Common.{◌≡◌, ℕ, zero, suc, Bool, true, List, length, replicate, refl, ◌∙◌, subst, sym}
 use Rattle.std.proofs.lemmas.List.{length-replicate}
 use Rattle.masked_bytes.{specs.Masked.{IsMasked, gives_some, laid, none_given, zero_elsewhere}, proofs.Layering.{joined-none_right, length-laid, zero_elsewhere-laid}}
 

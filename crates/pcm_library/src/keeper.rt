@@ -1,5 +1,5 @@
 // What keeps outcomes until they are taken.
-ghost use Rattle.std.specs.Prelude.{◌≡◌, ◌+◌, ◌<◌, ◌≤◌, [], ◌∷◌, ◌++◌, Some, IfOk, OnErr, OnOk, IsTrue, is_some, length, option_to_list};
+ghost use Rattle.std.specs.Prelude.{◌≡◌, ◌+◌, ◌<◌, ◌≤◌, [], ◌∷◌, ◌++◌, Some, IfNone, IfOk, OnErr, OnOk, IsTrue, is_some, length, option_to_list};
 ghost use Rattle.std.specs.VecDeque.{deque_capacity, deque_len};
 ghost use Rattle.result_rows.specs.declared.Outcome.TheVariants.{Unset};
 ghost use Rattle.result_rows.specs.Outcomes.{op_of};
@@ -141,6 +141,7 @@ impl<const B: usize> Keeper<B> {
         ensures prints { self.new.prints ≡ self.old.prints }
         ensures taken { self.new.sink.taken ≡ self.old.sink.taken ++ option_to_list result }
         ensures waiting { self.old.sink.waiting ≡ option_to_list result ++ self.new.sink.waiting }
+        ensures none { IfNone result (self.old.sink.waiting ≡ []) }
         ensures room { self.new.sink.room ≡ self.old.sink.room }
     {
         match self.waiting.pop_front() {

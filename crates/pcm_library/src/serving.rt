@@ -89,6 +89,7 @@ pub(crate) fn drain<const B: usize, const M: usize, const E: usize, A: CellArray
     ensures shape { pcm.new.shape ≡ pcm.old.shape }
     ensures taken { out.new.sink.taken ≡ out.old.sink.taken }
     ensures room { out.new.sink.room ≡ out.old.sink.room }
+    ensures wear { (A.state array.new).wear ≡ (A.state array.old).wear }
 {
     pcm.finish(array, out);
     out.tells_once();

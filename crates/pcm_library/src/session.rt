@@ -1,11 +1,12 @@
 // A module that another program calls.
-ghost use Rattle.std.specs.Prelude.{◌≡◌, ◌≢◌, ◌≤◌, ◌&&◌, ◌+◌, ◌++◌, [], ◌∷◌, ℕ, IfOk, None, if◌then◌else◌, length, nat_le, true, false, option_to_list};
-ghost use Rattle.cell_rows.specs.Device.{IsWear};
+ghost use Rattle.std.specs.Prelude.{◌≡◌, ◌≢◌, ◌≤◌, ◌&&◌, ◌+◌, ◌*◌, ◌++◌, [], ◌∷◌, ℕ, IfNone, IfOk, None, if◌then◌else◌, length, nat_le, true, false, option_to_list};
+ghost use Rattle.cell_rows.specs.Device.{IsFresh, IsWear};
 ghost use Rattle.ecp_line.specs.Layout.{IsLayout};
 ghost use Rattle.bank_shape.specs.declared.Home.TheVariants.{Array};
 ghost use Rattle.trace_reader.specs.Events.{IsEventFor, IsOpFor};
 ghost use Rattle.trace_reader.specs.Rows.{latest_tick};
 ghost use Rattle.module_shape.specs.declared.raw.RawShape.{RawShape};
+ghost use Rattle.module_shape.specs.Addresses.{array_lines_of, module_of};
 ghost use Rattle.module_shape.specs.Limits.{IsShape, total_of};
 ghost use Rattle.trace_stream.specs.declared.asked.Asked.TheVariants.{Happens, Settle, Until as Waits};
 ghost use Rattle.row_stream.specs.declared.stop.Behind.TheVariants.{Off};
@@ -119,6 +120,8 @@ impl<const B: usize, const M: usize, const E: usize, A: CellArray<B, M> + Drop> 
         ensures waiting { IfOk result (λ s. (s.kept.sink.taken ≡ []) × (s.kept.sink.waiting ≡ [])) }
         ensures asked { IfOk result (λ s. (s.asked ≡ []) × (s.module_.finished ≡ false)) }
         ensures ticks { IfOk result (λ s. (s.module_.tick ≡ 0) × (s.kept.rows ≡ 0)) }
+        ensures fresh { IfOk result (λ s. IsFresh (shape.banks * array_lines_of (module_of shape)) wear
+            (A.state s.array)) }
     {
         let mut array = array;
         array.power_up(alloc, shape.array_lines(), wear)?;
@@ -319,6 +322,7 @@ impl<const B: usize, const M: usize, const E: usize, A: CellArray<B, M> + Drop> 
             self.new.kept.rows self.new.kept.told self.new.kept.prints self.new.kept.snapshots)
             × (told_along left.0 ≡ told_so_far had) }
         ensures taken { self.new.kept.sink.taken ≡ self.old.kept.sink.taken }
+        ensures wear { (A.state self.new.array).wear ≡ (A.state self.old.array).wear }
         ensures rest { result ≢ Answer.Done → self.new ≡ self.old }
     {
         if self.finished {
@@ -346,6 +350,7 @@ impl<const B: usize, const M: usize, const E: usize, A: CellArray<B, M> + Drop> 
             self.new.kept.rows self.new.kept.told self.new.kept.prints self.new.kept.snapshots)
             × (without_cut true self.old.asked (told_along left.0) ≡ told_so_far had) }
         ensures taken { self.new.kept.sink.taken ≡ self.old.kept.sink.taken }
+        ensures wear { (A.state self.new.array).wear ≡ (A.state self.old.array).wear }
         ensures rest { result ≢ Answer.Done → self.new ≡ self.old }
     {
         if self.finished {
@@ -378,6 +383,7 @@ impl<const B: usize, const M: usize, const E: usize, A: CellArray<B, M> + Drop> 
             × (told_before (cut_at_end self.old.asked) self.old.asked (told_along left.0)
             ≡ told_so_far had) }
         ensures taken { self.new.kept.sink.taken ≡ self.old.kept.sink.taken }
+        ensures wear { (A.state self.new.array).wear ≡ (A.state self.old.array).wear }
         ensures rest { result ≢ Answer.Done → self.new ≡ self.old }
     {
         let event = Event {
@@ -408,6 +414,7 @@ impl<const B: usize, const M: usize, const E: usize, A: CellArray<B, M> + Drop> 
             self.new.kept.rows self.new.kept.told self.new.kept.prints self.new.kept.snapshots)
             × (told_along left.0 ≡ told_so_far had) }
         ensures taken { self.new.kept.sink.taken ≡ self.old.kept.sink.taken }
+        ensures wear { (A.state self.new.array).wear ≡ (A.state self.old.array).wear }
     {
         stay_off(&mut self.module, &self.array, &mut self.kept);
         self.finished = true;
@@ -426,6 +433,7 @@ impl<const B: usize, const M: usize, const E: usize, A: CellArray<B, M> + Drop> 
             ≡ self.old.kept.sink.taken ++ option_to_list result }
         ensures waiting { self.old.kept.sink.waiting
             ≡ option_to_list result ++ self.new.kept.sink.waiting }
+        ensures none { IfNone result (self.old.kept.sink.waiting ≡ []) }
         ensures rows { self.new.kept.rows ≡ self.old.kept.rows }
         ensures off { self.new.off ≡ self.old.off }
     {
