@@ -124,7 +124,7 @@ class Model:
             self.say(answer(which, INVALID))
         else:
             self.say(answer(which, TOLD, bytes(2) + told), answer(which, ACK))
-            return which == GO
+            return bool(which == GO)
         return False
 
     def request(self) -> None:
@@ -162,7 +162,7 @@ def are_infos(data: bytes) -> bool:
     if len(data) < 6:
         return False
     name, = struct.unpack(">I", data[:4])
-    return name + 6 <= len(data) and len(data) == name + 6 + 2 * struct.unpack(">H", data[4 + name:6 + name])[0]
+    return bool(name + 6 <= len(data) and len(data) == name + 6 + 2 * struct.unpack(">H", data[4 + name:6 + name])[0])
 
 
 class Reply(NamedTuple):
