@@ -1,8 +1,8 @@
 -- How many sectors fit.
 use Rattle.std.proofs.Common.{◌≡◌, ◌≢◌, ℕ, ◌+◌, ◌-◌, ◌*◌, ◌/◌, ◌%◌, ◌^◌, ◌<◌, ◌≤◌, inl, inr, min, sym, ap, subst, ◌∙◌, arith}
+use Rattle.std.proofs.{Math.Nat.{mul-le-mul_right, div-mul-le_self, min-le_left, min-le_right, le-min}, lemmas.Bool.cases_lt}
+use Rattle.std.proofs.lemmas.Nat.{div-add-mod', div-mul-add, mod_below, le-div}
 use Rattle.atomic_sectors.specs.Sectors.{Fits}
-use Rattle.std.proofs.Math.Nat.{mul-le-mul_right, div-mul-le_self, min-le_left, min-le_right, le-min}
-use Rattle.std.proofs.lemmas.{Bool.cases_lt, Nat.{div-add-mod', div-mul-add, mod_below, le-div}}
 use Rattle.disk_words.specs.Layouts.{fitting}
 
 -- so many full lines of the map, and so many words of one more

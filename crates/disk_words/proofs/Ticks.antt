@@ -1,6 +1,6 @@
 -- The ticks of cuts, drawn and listed.
-use Rattle.std.proofs.Common.{◌≡◌, ℕ, suc, ◌+◌, ◌*◌, ◌-◌, ◌%◌, ◌<◌, ◌≤◌, ◌==◌, List, [], ◌∷◌, ◌++◌, Option, Some, None, Bor, Vec, Result, Ok, map, drop, length, get_or, append-nil, refl, sym, ap, subst, ◌∙◌, arith, append_assoc}
-use Rattle.std.{specs.Int.{w64, to_le_bytes, from_le_bytes}, specs.List.slice_split, specs.Prelude.IfOk, proofs.lemmas.Nat.mod_below, proofs.Math.Seq.{drop-cons, drop-length}}
+use Rattle.std.proofs.Common.{◌≡◌, ℕ, suc, ◌+◌, ◌*◌, ◌-◌, ◌%◌, ◌<◌, ◌≤◌, ◌==◌, List, [], ◌∷◌, ◌++◌, Option, Some, None, Bor, Vec, Result, Ok, map, drop, length, get_or, refl, sym, ap, subst, ◌∙◌, arith, append_assoc}
+use Rattle.std.{specs.Int.{w64, to_le_bytes, from_le_bytes}, specs.List.slice_split, specs.Prelude.IfOk, proofs.Math.Seq.drop-cons, proofs.lemmas.Nat.mod_below}
 use Rattle.rand_core.specs.{Steps.stream_of, Stream.{Stream, next_u64}}
 use Rattle.rand_xoshiro.specs.SplitMix64.{splitmix_steps}
 use Rattle.clap.specs.Words.{Text}
@@ -69,11 +69,6 @@ listed-next whole items before tick text more is reads =
     is ∙ ap (λ o. with_some (with_some o (λ t. with_some (rising t more) (λ ticks. Some (t ∷ ticks)))) (λ ticks. Some (items ++ ticks))) (sym reads)
     ∙ read-one (rising tick more) tick items
 
-pub listed-none : (whole : Option (List ℕ)) (items : List ℕ) (before : ℕ) (text : Text) (more : List Text)
-    → whole ≡ with_some (rising before (text ∷ more)) (λ ticks. Some (items ++ ticks)) → None ≡ later text before → whole ≡ None
-listed-none whole items before text more is reads =
-    is ∙ ap (λ o. with_some (with_some o (λ t. with_some (rising t more) (λ ticks. Some (t ∷ ticks)))) (λ ticks. Some (items ++ ticks))) (sym reads)
-
 texts-at : (texts : List (Bor Text)) (i : ℕ) (d : Bor Text) → i < length texts → map (λ s. s.now) (drop i texts) ≡ (get_or texts i d).now ∷ map (λ s. s.now) (drop (i + 1) texts)
 texts-at texts i d within =
     let one : i + 1 ≡ suc i = omega arith in
@@ -84,16 +79,4 @@ pub listed-at : (whole : Option (List ℕ)) (items : List ℕ) (before tick : �
     → whole ≡ with_some (rising tick (map (λ s. s.now) (drop (i + 1) texts))) (λ ticks. Some ((items ++ tick ∷ []) ++ ticks))
 listed-at whole items before tick texts i d within is reads =
     listed-next whole items before tick (get_or texts i d).now (map (λ s. s.now) (drop (i + 1) texts))
-    (is ∙ ap (λ (more : List Text). with_some (rising before more) (λ ticks. Some (items ++ ticks))) (texts-at texts i d within)) reads
-
-pub listed-end : (whole : Option (List ℕ)) (items : List ℕ) (before : ℕ) (texts : List (Bor Text)) (i : ℕ) → i ≡ length texts
-    → whole ≡ with_some (rising before (map (λ s. s.now) (drop i texts))) (λ ticks. Some (items ++ ticks)) → whole ≡ Some items
-listed-end whole items before texts i all is =
-    let none : drop i texts ≡ [] = rw all (drop-length texts) in
-    is ∙ ap (λ (more : List (Bor Text)). with_some (rising before (map (λ s. s.now) more)) (λ ticks. Some (items ++ ticks))) none ∙ ap Some (append-nil items)
-
-pub listed-none-at : (whole : Option (List ℕ)) (items : List ℕ) (before : ℕ) (texts : List (Bor Text)) (i : ℕ) (d : Bor Text) → i < length texts
-    → whole ≡ with_some (rising before (map (λ s. s.now) (drop i texts))) (λ ticks. Some (items ++ ticks)) → None ≡ later (get_or texts i d).now before → whole ≡ None
-listed-none-at whole items before texts i d within is reads =
-    listed-none whole items before (get_or texts i d).now (map (λ s. s.now) (drop (i + 1) texts))
     (is ∙ ap (λ (more : List Text). with_some (rising before more) (λ ticks. Some (items ++ ticks))) (texts-at texts i d within)) reads

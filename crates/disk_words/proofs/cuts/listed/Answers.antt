@@ -1,7 +1,5 @@
 use Rattle.std.proofs.Common.{◌≡◌, ◌==◌, map, lit<}
-use Rattle.std.specs.{List.slice_split, Prelude.IfOk}
-use Rattle.std.proofs.lemmas.Iterator.Consumers.{map_from_collect}
-use Rattle.std.proofs.lemmas.Iterator.Splits.{YieldsList-from_str_split}
+use Rattle.std.{specs.List.slice_split, specs.Prelude.IfOk, proofs.lemmas.Iterator.Consumers.map_from_collect, proofs.lemmas.Iterator.Splits.YieldsList-from_str_split}
 use Rattle.disk_words.proofs.Ticks.{listed-at, listed-begin, split-into}
 use Rattle.disk_words.proofs.cuts.listed.Goals as goal
 

@@ -1,6 +1,5 @@
 use Rattle.std.proofs.Common.{◌/◌}
-use Rattle.disk_words.specs.Layouts.{line_bytes}
-use Rattle.disk_words.proofs.Fitting.{fits-by, most-by}
+use Rattle.disk_words.{specs.Layouts.line_bytes, proofs.Fitting.{fits-by, most-by}}
 use Rattle.disk_words.proofs.layout.layout.Goals as goal
 
 pub returns-clause-fits : goal.returns-clause-fits
