@@ -1,10 +1,10 @@
 -- How a call of the program ends: its status, and a line for the user.
 use Rattle.std.specs.Prelude.{◌≡◌, ◌≢◌, ℕ, List, codes, Option, Some, None}
 use Rattle.program_calls.specs.Calls.{Gets, GetsPart, IsUntouched, Lent, SinkChange, SinkFails}
-use Rattle.disk_server.specs.{declared.phase.Ended.Ended}
+use Rattle.disk_server.specs.declared.phase.Ended.{Ended}
 use Rattle.disk_server.specs.declared.phase.Ended.TheVariants as by
 use Rattle.disk_top.specs.{declared.outcome.Fault.Fault, declared.outcome.Fault.TheVariants.{Usage, CutOff, NoMessage, Read, Write, TooLong, NoMemory}}
-use Rattle.disk_top.specs.declared.{outcome.Outcome.Outcome}
+use Rattle.disk_top.specs.declared.outcome.Outcome.{Outcome}
 use Rattle.disk_top.specs.declared.outcome.Outcome.TheVariants as ends
 
 -- the status of the program for a fault

@@ -6,8 +6,8 @@ use Rattle.command_line.specs.declared.job.Refusal.TheVariants as refusal
 use Rattle.program_calls.specs.Calls.{Lent, SinkChange}
 use Rattle.disk_server.specs.declared.phase.Ended.{Ended}
 use Rattle.disk_words.specs.{Jobs.DiskAsked, declared.job.DiskPlan.DiskPlan}
-use Rattle.disk_top.specs.{Outcomes.{IsStatusOf, fault_in}, Serving.{HasServed, Shown}, declared.outcome.Outcome.Outcome, declared.program.Remains.Remains}
-use Rattle.disk_top.specs.{declared.outcome.Outcome.TheVariants.{Served, Usage, NoMemory}, declared.program.Remains.TheVariants.{Nothing, Narrow, Wide}}
+use Rattle.disk_top.specs.{Outcomes.{IsStatusOf, fault_in}, Serving.{HasServed, Shown}, declared.outcome.Outcome.Outcome}
+use Rattle.disk_top.specs.{declared.outcome.Outcome.TheVariants.{Served, Usage, NoMemory}, declared.program.Remains.Remains, declared.program.Remains.TheVariants.{Narrow, Wide}}
 
 -- a call: what was asked for, what is seen of the client before and behind it, and what is left
 pub record Call : Type 0 where

@@ -37,13 +37,18 @@ module _ {n m e : ℕ} {S : Type 0} where
     stops = stops_on lines;
   }
 
-  -- a client was served by a disk that lay on a new module of these sizes and this seed: what it was answered, byte for byte, is what a disk of bytes answers
-  -- to its messages; and each byte that was acknowledged is kept in the module that is left, in its array or in a protected queue
-  pub record HasServed (state : S → ArrayState n m) (plan : DiskPlan) (was now : Shown) (last : OnModule n m e S) (ended : Ended) : Type 0 where
-    pub first : OnModule n m e S
+  -- nothing was asked yet of these lines: they are those of a new module of the plan's sizes and seed
+  pub record IsNewOn (plan : DiskPlan) (first : OnModule n m e S) : Type 0 where
     pub shape : first.module_.shape ≡ plan.shape
     pub seed : first.module_.seed ≡ plan.seed
-    pub new : (first.heard ≡ []) × (first.puts ≡ [])
+    pub heard : first.heard ≡ []
+    pub puts : first.puts ≡ []
+
+  -- a client was served by a disk that lay on such lines: what it was answered, byte for byte, is what a disk of bytes answers to its messages; and each byte
+  -- that was acknowledged is kept in the module that is left, in its array or in a protected queue
+  pub record HasServed (state : S → ArrayState n m) (plan : DiskPlan) (was now : Shown) (last : OnModule n m e S) (ended : Ended) : Type 0 where
+    pub first : OnModule n m e S
+    pub new : IsNewOn plan first
     pub session : IsSession n plan.layout (mode_of plan.on_cut) (seen_with was first) (seen_with now last) ended
     pub has : HasHeard last.module_ (state last.array) last.heard
     pub kept : IsDiskKept last.module_ (state last.array) last.heard plan.layout (asked session.messages [])

@@ -1,10 +1,10 @@
 // How a call of the program ends, and what it says then.
 ghost use Rattle.std.specs.Prelude.{◌≡◌};
-ghost use Rattle.program_calls.specs.Calls.{lent_sink};
-ghost use Rattle.disk_top.specs.Outcomes.{IsStatusOf, fault_in, fault_line, fault_of, status_of};
+ghost use Rattle.program_calls.specs.Calls.{Writes, lent_sink, sink_change};
+ghost use Rattle.disk_top.specs.Outcomes.{IsStatusOf, IsToldOf, fault_in, fault_line, fault_of, status_of};
 
 use disk_server::Ended;
-use pcm_io::{Sink, write_all};
+use pcm_io::{Sink, WriteFault, write_all};
 
 /// How a call of the program ends.
 #[derive(Clone, Copy, PartialEq, Eq)]
@@ -94,6 +94,24 @@ impl Outcome {
     }
 }
 
+// Writes the line of a fault.
+fn tell<F: Sink>(fault: Fault, err: &mut F) -> Result<(), WriteFault>
+    ensures { Writes (fault_line fault) (sink_change F.written F.faults err.old err.new) result }
+{
+    write_all(err, fault.line())
+}
+
+// The status of a fault, after its line was written; that of a fault of writing where the line
+// couldn't be.
+fn give_up<F: Sink>(fault: Fault, err: &mut F) -> u8
+    ensures { IsToldOf fault (sink_change F.written F.faults err.old err.new) result }
+{
+    match tell(fault, err) {
+        Ok(()) => fault.status(),
+        Err(_) => Fault::Write.status(),
+    }
+}
+
 /// The status of how a call ended, after the line of its fault was written, if it has one; that of a
 /// fault of writing where the line couldn't be.
 pub(crate) fn say<F: Sink>(outcome: Outcome, err: &mut F) -> u8
@@ -101,9 +119,6 @@ pub(crate) fn say<F: Sink>(outcome: Outcome, err: &mut F) -> u8
 {
     match outcome.fault() {
         None => 0,
-        Some(fault) => match write_all(err, fault.line()) {
-            Ok(()) => fault.status(),
-            Err(_) => Fault::Write.status(),
-        },
+        Some(fault) => give_up(fault, err),
     }
 }

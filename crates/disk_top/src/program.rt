@@ -1,16 +1,19 @@
 // The program's one call.
-ghost use Rattle.std.specs.Prelude.{◌≡◌, Ok, map, string_bytes};
+ghost use Rattle.std.specs.Prelude.{◌≡◌, IfOk, Ok, OnErr, map, string_bytes};
+ghost use Rattle.pcm_cells.specs.Seeded.{seeded_state};
+ghost use Rattle.disk_words.specs.Layouts.{line_bytes};
 ghost use Rattle.program_calls.specs.Calls.{lent_sink};
 ghost use Rattle.disk_words.specs.Jobs.{IsDiskPlan, asked_by, disk_job_of};
 ghost use Rattle.disk_top.specs.Promises.{Becomes, KeepsPromises};
-ghost use Rattle.disk_top.specs.Serving.{shown};
+ghost use Rattle.disk_top.specs.Serving.{HasServed, shown};
 
 use crate::outcome::{Outcome, say};
-use crate::serving::{NarrowLines, WideLines, serve_narrow, serve_wide};
+use crate::serving::{NarrowLines, WideLines, narrow, serve, wide};
 use command_line::{LineSize, Refusal};
+use disk_server::Ended;
 use disk_words::{DiskJob, read_disk_job};
 use pcm_io::{Sink, Source};
-use std::alloc::Global;
+use std::alloc::{AllocError, Global};
 
 /// The lines of a disk that was served, over their array, by the size of a line; nothing where none
 /// was.
@@ -19,6 +22,48 @@ pub enum Remains {
     Nothing,
     Narrow(NarrowLines),
     Wide(WideLines),
+}
+
+// Serves a client by a disk on lines of 64 bytes.
+fn serve_narrow<S: Source, K: Sink>(
+    alloc: Global,
+    job: DiskJob,
+    source: &mut S,
+    sink: &mut K,
+) -> Result<(Ended, NarrowLines), AllocError>
+    requires plan { IsDiskPlan job.plan }
+    requires line { line_bytes job.plan.line ≡ 64 }
+    ensures served { IfOk result (λ served. HasServed seeded_state job.plan
+        (shown S.left S.taken S.faults K.written K.faults source.old sink.old)
+        (shown S.left S.taken S.faults K.written K.faults source.new sink.new)
+        served.1 served.0) }
+    ensures asleep { OnErr result ((source.new ≡ source.old) × (sink.new ≡ sink.old)) }
+{
+    let plan = job.plan;
+    let mut lines = narrow(alloc, job)?;
+    let ended = serve(alloc, plan, &mut lines, source, sink)?;
+    Ok((ended, lines))
+}
+
+// The same of 128 bytes.
+fn serve_wide<S: Source, K: Sink>(
+    alloc: Global,
+    job: DiskJob,
+    source: &mut S,
+    sink: &mut K,
+) -> Result<(Ended, WideLines), AllocError>
+    requires plan { IsDiskPlan job.plan }
+    requires line { line_bytes job.plan.line ≡ 128 }
+    ensures served { IfOk result (λ served. HasServed seeded_state job.plan
+        (shown S.left S.taken S.faults K.written K.faults source.old sink.old)
+        (shown S.left S.taken S.faults K.written K.faults source.new sink.new)
+        served.1 served.0) }
+    ensures asleep { OnErr result ((source.new ≡ source.old) × (sink.new ≡ sink.old)) }
+{
+    let plan = job.plan;
+    let mut lines = wide(alloc, job)?;
+    let ended = serve(alloc, plan, &mut lines, source, sink)?;
+    Ok((ended, lines))
 }
 
 // Serves a client by the disk that is asked for.
