@@ -668,10 +668,10 @@ def main():
         a_cache_loses_what_is_not_flushed()
         sizes_and_suffixes()
         first_rows_of_a_log()
-        row_after_row_of_a_log()
         cuts_are_drawn_or_named()
         cuts_of_control_come_beside_the_others()
         if HAS_PROGRAM:
+            row_after_row_of_a_log()
             a_module_that_forgets_is_found_out()
         log = the_disk_as_a_cut_left_it(a_disk_goes_on_from_its_log())
         a_server_in_the_background_tells_of_a_wrong_log(log)
