@@ -37,8 +37,8 @@ fn number_or_default(text: Option<&str>, default: u64, least: u64, most: u64) ->
     }
 }
 
-// The number of an option, or its default.
-pub(crate) fn number_of(
+/// The number that an option gives, in decimal digits, or its default where it isn't given.
+pub fn number_of(
     matches: &ArgMatches<'_>,
     name: &str,
     default: u64,

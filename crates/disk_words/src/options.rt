@@ -1,7 +1,7 @@
 // What the options of a disk mean, where it isn't what those of a stream mean.
 ghost use Rattle.std.specs.Prelude.{◌≡◌, ◌≢◌, ◌≤◌, ◌^◌, ℕ, IfSome, IfOk, IfErr, Some, None, codes, option_map};
 ghost use Rattle.clap.specs.Words.{first_of, found_of, rows_of};
-ghost use Rattle.command_line.specs.Options.{number_or, number_option};
+
 ghost use Rattle.atomic_sectors.specs.Sectors.{Fits};
 ghost use Rattle.module_shape.specs.Limits.{IsShape, total_of};
 ghost use Rattle.disk_words.specs.Cuts.{IsDrawn, cuts_of, drawing_of};
@@ -9,39 +9,14 @@ ghost use Rattle.disk_words.specs.Layouts.{line_bytes};
 ghost use Rattle.disk_words.specs.Options.{on_cut_of, sectors_of};
 
 use crate::cuts::{DrawnCuts, draw, listed};
-use crate::job::OnCut;
 use crate::layout::layout;
 use atomic_sectors::Layout;
 use clap::ArgMatches;
-use command_line::options::value;
+use command_line::options::{number_of, value};
 use command_line::{LineSize, Refusal};
+use disk_server::OnCut;
 use module_shape::Shape;
 use std::alloc::Global;
-use trace_reader::number;
-
-// The number that an option gives, or its default.
-#[tactic(auto, unfolding(command_line::specs::Options::number_or), using(trace_reader::proofs::Numbers::number_within))]
-fn number_of(
-    matches: &ArgMatches<'_>,
-    name: &str,
-    default: u64,
-    least: u64,
-    most: u64,
-) -> Option<u64>
-    requires { (least ≤ default) × (default ≤ most) }
-    ensures exact { result ≡ number_option name.now default least most
-        (rows_of (found_of matches.now)) }
-    ensures least { IfSome result (λ number. least ≤ number) }
-    ensures most { IfSome result (λ number. number ≤ most) }
-{
-    match value(matches, name) {
-        None => Some(default),
-        Some(text) => {
-            let value = number(text.as_bytes(), 20, most)?;
-            if least <= value { Some(value) } else { None }
-        }
-    }
-}
 
 /// How its sectors lie on the lines of a module.
 pub(crate) fn sectors(matches: &ArgMatches<'_>, line: LineSize, shape: &Shape) -> Option<Layout>
