@@ -354,12 +354,7 @@ static void standard_descriptors_may_be_closed(const char *const words[])
 int main(int count, char **words)
 {
     const char *all[20] = {0};
-    const char *options[] = {"stream", "--banks", "1", "--regions", "1", "--lines", "4"};
-    int n = 0;
-    for (int i = 1; i < count && n < 4; i++)
-        all[n++] = words[i];
-    for (int i = 0; i < 7; i++)
-        all[n++] = options[i];
+    int n = begin_words(all, count, words);
     what_cannot_start_is_told();
     a_close_waits_for_an_end();
     the_bank_of_a_line(all, n);

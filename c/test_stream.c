@@ -464,12 +464,7 @@ static void a_bank_without_a_spare_is_exhausted(const char *const words[], int c
 int main(int count, char **words)
 {
     const char *all[20] = {0};
-    const char *options[] = {"stream", "--banks", "1", "--regions", "1", "--lines", "4"};
-    int n = 0;
-    for (int i = 1; i < count && n < 4; i++)
-        all[n++] = words[i];
-    for (int i = 0; i < 7; i++)
-        all[n++] = options[i];
+    int n = begin_words(all, count, words);
     answers_come_as_they_are_known(all);
     what_is_all_zero_is_closed();
     what_prints_no_rows_is_refused(all, n);

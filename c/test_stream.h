@@ -14,6 +14,18 @@ enum { is_piped = 0 };
 enum { is_piped = 1 };
 #endif
 
+/* Puts the words of a stream into `all`: at most four of the test's own, then those of a small module. How many they are. */
+static inline int begin_words(const char *all[], int count, char **words)
+{
+    const char *options[] = {"stream", "--banks", "1", "--regions", "1", "--lines", "4"};
+    int n = 0;
+    for (int i = 1; i < count && n < 4; i++)
+        all[n++] = words[i];
+    for (int i = 0; i < 7; i++)
+        all[n++] = options[i];
+    return n;
+}
+
 /* Takes outcomes up to the next one that says that the module has settled, and answers how many came before. */
 static inline int until_settled(struct pcm *pcm, struct pcm_outcome *last)
 {

@@ -6,9 +6,9 @@ use Rattle.atomic_sectors.specs.{Sectors.Fits, declared.layout.Layout.Layout}
 use Rattle.disk_bytes.specs.{Parts.IsReady, declared.disk.Disk.Disk}
 use Rattle.disk_lines.specs.{Asking.HasHeard, Lines.{OnModule, writes_of}}
 use Rattle.disk_promise.specs.Keeping.{IsDiskKept}
-use Rattle.disk_server.specs.{Messages.asked, Sessions.IsSession, declared.answering.OnCut.OnCut, declared.phase.Ended.Ended}
+use Rattle.disk_server.specs.{Messages.asked, Sessions.IsSession, declared.phase.Ended.Ended}
 use Rattle.disk_words.specs.{Jobs.IsDiskPlan, Layouts.line_bytes, declared.job.DiskPlan.DiskPlan}
-use Rattle.disk_top.specs.Serving.{HasServed, IsNewOn, Shown, mode_of, seen_with}
+use Rattle.disk_top.specs.Serving.{HasServed, IsNewOn, Shown, seen_with}
 
 -- the layout of the plan has room on the lines of the module
 pub fits-on : (n : ℕ) (plan : DiskPlan) (layout : Layout) (shape : RawShape) → line_bytes plan.line ≡ n → layout ≡ plan.layout → shape ≡ plan.shape → IsDiskPlan plan
@@ -21,16 +21,14 @@ module _ {n m e : ℕ} {S : Type 0} where
   pub ready-on : (disk : Disk n) (first : OnModule n m e S) → first.puts ≡ [] → IsReady n [] disk → IsReady n (writes_of first.puts) disk
   ready-on disk first none ready = rw none ready
 
-  pub served-on : (state : S → ArrayState n m) (plan : DiskPlan) (was now : Shown) (first last : OnModule n m e S) (layout : Layout) (mode : OnCut) (ended : Ended)
-      → layout ≡ plan.layout → mode ≡ mode_of plan.on_cut → IsNewOn plan first
-      → (session : IsSession n layout mode (seen_with was first) (seen_with now last) ended)
+  pub served-on : (state : S → ArrayState n m) (plan : DiskPlan) (was now : Shown) (first last : OnModule n m e S) (layout : Layout) (ended : Ended)
+      → layout ≡ plan.layout → IsNewOn plan first
+      → (session : IsSession n layout plan.on_cut (seen_with was first) (seen_with now last) ended)
       → (first.puts ≡ [] → IsDiskKept last.module_ (state last.array) last.heard layout (asked session.messages []))
       → HasHeard last.module_ (state last.array) last.heard → HasServed state plan was now last ended
-  served-on state plan was now first last layout mode ended lays moded new session kept has =
-      let both : (s : IsSession n plan.layout (mode_of plan.on_cut) (seen_with was first) (seen_with now last) ended)
+  served-on state plan was now first last layout ended lays new session kept has =
+      let both : (s : IsSession n plan.layout plan.on_cut (seen_with was first) (seen_with now last) ended)
       × IsDiskKept last.module_ (state last.array) last.heard plan.layout (asked s.messages []) =
-      subst (λ (l : Layout). (s : IsSession n l (mode_of plan.on_cut) (seen_with was first) (seen_with now last) ended)
-      × IsDiskKept last.module_ (state last.array) last.heard l (asked s.messages [])) lays
-      (subst (λ (k : OnCut). (s : IsSession n layout k (seen_with was first) (seen_with now last) ended)
-      × IsDiskKept last.module_ (state last.array) last.heard layout (asked s.messages [])) moded (session, kept new.puts)) in
+      subst (λ (l : Layout). (s : IsSession n l plan.on_cut (seen_with was first) (seen_with now last) ended)
+      × IsDiskKept last.module_ (state last.array) last.heard l (asked s.messages [])) lays (session, kept new.puts) in
       record { first = first; new = new; session = both.0; has = has; kept = both.1 }

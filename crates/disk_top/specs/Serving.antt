@@ -3,14 +3,8 @@ use Rattle.std.specs.Prelude.{◌≡◌, ℕ, List, [], Option}
 use Rattle.cell_rows.specs.Device.{ArrayState}
 use Rattle.disk_lines.specs.{Asking.HasHeard, Lines.OnModule}
 use Rattle.disk_promise.specs.{Clients.{made_on, stops_on}, Keeping.IsDiskKept}
-use Rattle.disk_server.specs.{Messages.asked, Sessions.{IsSession, Seen}, declared.answering.OnCut.OnCut, declared.phase.Ended.Ended}
-use Rattle.disk_server.specs.declared.answering.OnCut.TheVariants as mode
-use Rattle.disk_words.specs.{declared.job.DiskPlan.DiskPlan, declared.job.OnCut.OnCut as Told, declared.job.OnCut.TheVariants.{Drop, Ride}}
-
--- what becomes of a request that a power cut stops
-abbrev pub mode_of : Told → OnCut
-mode_of Drop = mode.Drop
-mode_of Ride = mode.Ride
+use Rattle.disk_server.specs.{Messages.asked, Sessions.{IsSession, Seen}, declared.phase.Ended.Ended}
+use Rattle.disk_words.specs.declared.job.DiskPlan.{DiskPlan}
 
 -- what is seen of a client's source and sink
 pub record Shown : Type 0 where
@@ -49,6 +43,6 @@ module _ {n m e : ℕ} {S : Type 0} where
   pub record HasServed (state : S → ArrayState n m) (plan : DiskPlan) (was now : Shown) (last : OnModule n m e S) (ended : Ended) : Type 0 where
     pub first : OnModule n m e S
     pub new : IsNewOn plan first
-    pub session : IsSession n plan.layout (mode_of plan.on_cut) (seen_with was first) (seen_with now last) ended
+    pub session : IsSession n plan.layout plan.on_cut (seen_with was first) (seen_with now last) ended
     pub has : HasHeard last.module_ (state last.array) last.heard
     pub kept : IsDiskKept last.module_ (state last.array) last.heard plan.layout (asked session.messages [])

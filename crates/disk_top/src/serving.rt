@@ -2,14 +2,14 @@
 ghost use Rattle.std.specs.Prelude.{◌≡◌, ◌≤◌, IfOk, OnErr};
 ghost use Rattle.disk_words.specs.Jobs.{IsDiskPlan};
 ghost use Rattle.disk_words.specs.Layouts.{line_bytes};
-ghost use Rattle.disk_top.specs.Serving.{HasServed, IsNewOn, mode_of, shown};
+ghost use Rattle.disk_top.specs.Serving.{HasServed, IsNewOn, shown};
 
 use atomic_sectors::laws::new_lines_are_whole_sectors;
 use cell_rows::CellArray;
 use disk_bytes::Disk;
 use disk_lines::PcmLines;
 use disk_promise::serve_client;
-use disk_server::{Ended, OnCut};
+use disk_server::Ended;
 use disk_words::{DiskJob, DiskPlan};
 use pcm_cells::MemArray;
 use pcm_io::{Sink, Source};
@@ -20,16 +20,6 @@ pub type NarrowLines = PcmLines<64, 8, 6, MemArray<64, 8>>;
 
 /// The same of 128 bytes.
 pub type WideLines = PcmLines<128, 16, 8, MemArray<128, 16>>;
-
-// What becomes of a request that a power cut stops.
-fn mode(on_cut: disk_words::OnCut) -> OnCut
-    ensures { result ≡ mode_of on_cut }
-{
-    match on_cut {
-        disk_words::OnCut::Drop => OnCut::Drop,
-        disk_words::OnCut::Ride => OnCut::Ride,
-    }
-}
 
 /// A new module with lines of 64 bytes, whose power is cut when the words say so.
 pub(crate) fn narrow(alloc: Global, job: DiskJob) -> Result<NarrowLines, AllocError>
@@ -79,5 +69,5 @@ pub(crate) fn serve<
 {
     new_lines_are_whole_sectors();
     let mut disk = Disk::new(alloc, plan.layout)?;
-    Ok(serve_client(alloc, &mut disk, lines, mode(plan.on_cut), source, sink))
+    Ok(serve_client(alloc, &mut disk, lines, plan.on_cut, source, sink))
 }

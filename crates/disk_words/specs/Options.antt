@@ -3,7 +3,8 @@ use Rattle.std.specs.Prelude.{ℕ, List, codes, Option}
 use Rattle.clap.specs.Words.{Row, Text}
 use Rattle.atomic_sectors.specs.declared.layout.Layout.{Layout}
 use Rattle.command_line.specs.{Options.{number_option, one_of_two, with_some}, declared.job.LineSize.LineSize}
-use Rattle.disk_words.specs.{Layouts.{layout_of, line_bytes}, declared.job.OnCut.OnCut, declared.job.OnCut.TheVariants.{Drop, Ride}}
+use Rattle.disk_server.specs.declared.answering.{OnCut.OnCut, OnCut.TheVariants.{Drop, Ride}}
+use Rattle.disk_words.specs.Layouts.{layout_of, line_bytes}
 
 -- how sectors lie on so many lines
 abbrev pub sectors_of : LineSize → ℕ → List Row → Option Layout

@@ -2,6 +2,7 @@
 use atomic_sectors::Layout;
 use cell_rows::Wear;
 use command_line::LineSize;
+use disk_server::OnCut;
 use module_shape::Shape;
 
 /// A disk on a new module, and when the power is cut.
@@ -28,13 +29,4 @@ pub struct DiskPlan {
     pub layout: Layout,
     /// What becomes of a request that a power cut ends.
     pub on_cut: OnCut,
-}
-
-/// What becomes of a request that a power cut ends.
-#[derive(Clone, Copy, Drop, PartialEq, Eq)]
-pub enum OnCut {
-    /// It is answered by an error.
-    Drop,
-    /// It is served again, and nothing is said of the cut.
-    Ride,
 }

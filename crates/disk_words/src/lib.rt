@@ -11,5 +11,5 @@ mod read;
 mod table;
 
 pub use cuts::DrawnCuts;
-pub use job::{DiskJob, DiskPlan, OnCut};
+pub use job::{DiskJob, DiskPlan};
 pub use read::read_disk_job;

@@ -61,9 +61,9 @@ reply_front choice kind size = eight 0x3E889045565A9 ++ (four (choice_code choic
 abbrev pub option_reply : Choice → Kind → List ℕ → List ℕ
 option_reply choice kind bytes = reply_front choice kind (length bytes) ++ bytes
 
--- what is said of a disk of so many bytes: flush and forced writes are known, and several clients see one disk
+-- what is said of a disk of so many bytes: flush and forced writes are known
 abbrev pub transmission_flags : ℕ
-transmission_flags = 1 + 4 + 8 + 256
+transmission_flags = 1 + 4 + 8
 
 abbrev pub export_bytes : ℕ → List ℕ
 export_bytes size = eight size ++ two transmission_flags

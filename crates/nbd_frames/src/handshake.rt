@@ -145,7 +145,7 @@ pub fn export_bytes(size: u64) -> [u8; 10]
     ensures { result ≡ export_bytes size }
 {
     let [a, b, c, d, e, f, g, h] = size.to_be_bytes();
-    [a, b, c, d, e, f, g, h, 0x01, 0x0D]
+    [a, b, c, d, e, f, g, h, 0, 0x0D]
 }
 
 /// What other clients are told of it.
@@ -153,7 +153,7 @@ pub fn info_bytes(size: u64) -> [u8; 12]
     ensures { result ≡ two 0 ++ export_bytes size }
 {
     let [a, b, c, d, e, f, g, h] = size.to_be_bytes();
-    [0, 0, a, b, c, d, e, f, g, h, 0x01, 0x0D]
+    [0, 0, a, b, c, d, e, f, g, h, 0, 0x0D]
 }
 
 /// Whether an option's data are those of an INFO or a GO.

@@ -20,5 +20,5 @@ returns-clause-served g c =
     served-on g.A.CellArray.state c.args.plan
     (shown g.S.Source.left g.S.Source.taken g.S.Source.faults g.K.Sink.written g.K.Sink.faults c.args.source.now c.args.sink.now)
     (shown g.S.Source.left g.S.Source.taken g.S.Source.faults g.K.Sink.written g.K.Sink.faults c.serve_client.new.source c.serve_client.new.sink)
-    c.args.lines.now c.serve_client.new.lines c.in_ok-disk.disk.layout c.mode.result c.serve_client.result c.in_ok-disk.ensures.layout c.mode.ensures c.requires.new
+    c.args.lines.now c.serve_client.new.lines c.in_ok-disk.disk.layout c.serve_client.result c.in_ok-disk.ensures.layout c.requires.new
     told.0 told.2 c.serve_client.ensures.has
