@@ -1,7 +1,6 @@
 // What the options of a disk mean, where it isn't what those of a stream mean.
 ghost use Rattle.std.specs.Prelude.{◌≡◌, ◌≢◌, ◌≤◌, ◌^◌, ℕ, IfSome, IfOk, IfErr, Some, None, codes, option_map};
 ghost use Rattle.clap.specs.Words.{first_of, found_of, rows_of};
-
 ghost use Rattle.atomic_sectors.specs.Sectors.{Fits};
 ghost use Rattle.module_shape.specs.Limits.{IsShape, total_of};
 ghost use Rattle.disk_words.specs.Cuts.{IsDrawn, cuts_of, drawing_of};
