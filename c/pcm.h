@@ -16,10 +16,10 @@
    wait until they are taken: nothing is called back. Memory comes from malloc: as the module is opened, for all that it will ever hold, but for
    outcomes that wait while more rows come. Each call that may be refused answers a status; but for PCM_MODULE_OK it has changed nothing.
 
-   What a call that is done does to the module is proved, for all arguments; which refusal comes when is tested. What C can break is what C always
-   can: a pointer that isn't valid (so NULL), or not to as many bytes as are said; a struct pcm_module that is neither all zero nor as the last call
-   left it, so one that was written to, or a copy of one of which the other was closed; two threads in one module at once (two modules share nothing).
-   All else is looked at as it comes, and answered.
+   What a call that is done does to the module is proved, for all arguments; which refusal comes when, and that cells wear as asked, is tested. What C
+   can break is what C always can: a pointer that isn't valid (so NULL), or not to as many bytes as are said; a struct pcm_module that is neither all
+   zero nor as the last call left it, so one that was written to, or a copy of one of which the other was closed; two threads in one module at once
+   (two modules share nothing). All else is looked at as it comes, and answered.
 
    Names begin with pcm_module, so that pcm_stream.h, whose module is another process, may stand beside it. */
 #ifndef PCM_H
