@@ -6,4 +6,4 @@ mod Making
 mod Reading
 mod Disks
 mod Cutting
-mod Kinds
+mod Staying

@@ -3,7 +3,7 @@ use Rattle.std.specs.Prelude.{IfSome, Option}
 use Rattle.module_shape.specs.{Limits.total_of, declared.raw.RawShape.RawShape}
 use Rattle.result_rows.specs.Outcomes.{bytes_of}
 use Rattle.row_rules.specs.Rows.{newest}
-use Rattle.disk_lines.{specs.Asking.rows_heard, specs.Hearing.events_in, proofs.Kinds.kind-row, proofs.Reading.read-answers}
+use Rattle.disk_lines.{specs.Asking.rows_heard, specs.Hearing.events_in, proofs.Staying.kind-row, proofs.Reading.read-answers}
 use Rattle.trace_reader.specs.declared.event.EventOp.TheVariants.{Read}
 use Rattle.disk_lines.proofs.rows.Running.ask.Goals as goal
 

@@ -1,4 +1,4 @@
-use Rattle.disk_lines.proofs.Kinds.{kind-cut}
+use Rattle.disk_lines.proofs.Staying.{kind-cut}
 use Rattle.disk_lines.proofs.rows.Running.cut.Goals as goal
 
 pub returns-clause-kind : goal.returns-clause-kind

@@ -1,7 +1,7 @@
 use Rattle.std.proofs.Common.{rules, ◌≡◌, ◌∙◌, ◌+◌, ◌<◌, ap, sym, subst, length, arith}
 use Rattle.trace_reader.specs.Events.{IsOpFor}
 use Rattle.module_shape.specs.{Limits.total_of, declared.raw.RawShape.RawShape}
-use Rattle.disk_lines.{specs.Asking.SameLines, specs.Hearing.{events_in, table_in}, proofs.Asking.{later-still, same-still}, proofs.Disks.on-err, proofs.Kinds.kind-row}
+use Rattle.disk_lines.{specs.Asking.SameLines, specs.Hearing.{events_in, table_in}, proofs.Asking.{later-still, same-still}, proofs.Disks.on-err, proofs.Staying.kind-row}
 use Rattle.disk_lines.proofs.{Making.{lays-accepted, lays-none, same-refused}, Reading.last-served}
 use Rattle.disk_lines.proofs.rows.Running.write.Goals as goal
 use Rattle.bank_laws.specs.Outcomes.{ended}

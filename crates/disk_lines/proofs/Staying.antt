@@ -8,7 +8,7 @@ use Rattle.pcm_module.specs.State.{ModuleState}
 use Rattle.disk_lines.specs.{Asking.{Passes, TakesRow}, Cutting.{all_cuts, come_from, left_behind, left_of}, Hearing.{Hearing, cuts_by, events_in}, Lines.{Kind, kind_at, kind_of}}
 use Rattle.disk_lines.{specs.declared.cuts.Cuts.Cuts, proofs.Cutting.{cuts-came, cuts-pass, cuts-stand}}
 
-own : RawShape → ℕ → Option Wear → List ℕ → Kind
+abbrev own : RawShape → ℕ → Option Wear → List ℕ → Kind
 own shape seed wear cuts = record { shape = shape; seed = seed; wear = wear; cuts = cuts }
 
 module _ {n m e : ℕ} (old new : ModuleState n m e) (before after : ArrayState n m) where
