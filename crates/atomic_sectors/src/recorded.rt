@@ -35,9 +35,14 @@ impl<const B: usize> Recorded<B> {
 }
 
 impl<const B: usize> Lines<B> for Recorded<B> {
+    ghost use Rattle.std.specs.Prelude.{ℕ};
     ghost use Rattle.atomic_sectors.specs.Recorded.{behind};
 
-    ghost count = { λ r. r.lines };
+    ghost Kind = { ℕ };
+
+    ghost kind = { λ r. r.lines };
+
+    ghost count = { λ lines. lines };
 
     ghost made = { λ r. behind [] r.puts.items };
 

@@ -22,14 +22,14 @@ fn find_block<const B: usize, L: Lines<B>>(
     lines: &mut L,
     sector: u32,
 ) -> Result<u32, Stopped>
-    requires fits { Fits B layout.now (L.count lines.old) }
+    requires fits { Fits B layout.now (L.count (L.kind lines.old)) }
     requires exists { sector < layout.now.sectors }
     ensures block { IfOk result (λ block. block
         ≡ block_of B layout.now (stand B (L.made lines.old)) sector) }
     ensures made { L.made lines.new ≡ L.made lines.old }
     ensures cause { OnErr result (Rose (L.stops lines.old) (L.stops lines.new)) }
     ensures never_falls { L.stops lines.old ≤ L.stops lines.new }
-    ensures count { L.count lines.new ≡ L.count lines.old }
+    ensures kind { L.kind lines.new ≡ L.kind lines.old }
 {
     let count = lines.count();
     let bytes = lines.get(layout.word_line::<B>(sector, count))?;
@@ -51,14 +51,14 @@ fn fill<const B: usize, L: Lines<B>>(
     first: u32,
     from: &[[u8; B]],
 ) -> Result<(), Stopped>
-    requires within { first + length from.now ≤ L.count lines.old }
-    requires few { L.count lines.old ≤ 2 ^ 26 }
+    requires within { first + length from.now ≤ L.count (L.kind lines.old) }
+    requires few { L.count (L.kind lines.old) ≤ 2 ^ 26 }
     ensures stand { OnOk result (StandFrom B first from.now (L.made lines.new)) }
     ensures moments { AtEachMoment (KeepsOthers B first (length from.now) (L.made lines.old))
         (L.made lines.old) (L.made lines.new) }
     ensures cause { OnErr result (Rose (L.stops lines.old) (L.stops lines.new)) }
     ensures never_falls { L.stops lines.old ≤ L.stops lines.new }
-    ensures count { L.count lines.new ≡ L.count lines.old }
+    ensures kind { L.kind lines.new ≡ L.kind lines.old }
 {
     let all = [true; B];
     for i in 0..from.len() {
@@ -73,13 +73,13 @@ fn read_lines<const B: usize, L: Lines<B>>(
     first: u32,
     to: &mut [[u8; B]],
 ) -> Result<(), Stopped>
-    requires within { first + length to.old ≤ L.count lines.old }
-    requires few { L.count lines.old ≤ 2 ^ 26 }
+    requires within { first + length to.old ≤ L.count (L.kind lines.old) }
+    requires few { L.count (L.kind lines.old) ≤ 2 ^ 26 }
     ensures stand { OnOk result (StandFrom B first to.new (L.made lines.old)) }
     ensures made { L.made lines.new ≡ L.made lines.old }
     ensures cause { OnErr result (Rose (L.stops lines.old) (L.stops lines.new)) }
     ensures never_falls { L.stops lines.old ≤ L.stops lines.new }
-    ensures count { L.count lines.new ≡ L.count lines.old }
+    ensures kind { L.kind lines.new ≡ L.kind lines.old }
 {
     for i in 0..to.len() {
         to[i] = lines.get(first + i as u32)?;
@@ -94,7 +94,7 @@ fn put_word<const B: usize, L: Lines<B>>(
     sector: u32,
     word: u32,
 ) -> Result<(), Stopped>
-    requires fits { Fits B layout.now (L.count lines.old) }
+    requires fits { Fits B layout.now (L.count (L.kind lines.old)) }
     requires exists { sector < layout.now.sectors }
     ensures made { OnOk result (L.made lines.new
         ≡ word_write B layout.now sector word ∷ L.made lines.old) }
@@ -102,7 +102,7 @@ fn put_word<const B: usize, L: Lines<B>>(
         (L.made lines.old) (L.made lines.new)) }
     ensures cause { OnErr result (Rose (L.stops lines.old) (L.stops lines.new)) }
     ensures never_falls { L.stops lines.old ≤ L.stops lines.new }
-    ensures count { L.count lines.new ≡ L.count lines.old }
+    ensures kind { L.kind lines.new ≡ L.kind lines.old }
 {
     let count = lines.count();
     let at = layout.word_at::<B>(sector, count);
@@ -117,14 +117,14 @@ impl Sectors {
         layout: Layout,
         lines: &mut L,
     ) -> Result<Sectors, Stopped>
-        requires fits { Fits B layout (L.count lines.old) }
+        requires fits { Fits B layout (L.count (L.kind lines.old)) }
         requires whole { IsWhole B layout (stand B (L.made lines.old)) }
         ensures free { IfOk result (λ s. IsMapped B layout (stand B (L.made lines.old)) s.free) }
         ensures layout { IfOk result (λ s. s.layout ≡ layout) }
         ensures made { L.made lines.new ≡ L.made lines.old }
         ensures cause { OnErr result (Rose (L.stops lines.old) (L.stops lines.new)) }
         ensures never_falls { L.stops lines.old ≤ L.stops lines.new }
-        ensures count { L.count lines.new ≡ L.count lines.old }
+        ensures kind { L.kind lines.new ≡ L.kind lines.old }
     {
         let mut all = 0u64;
         let mut used = 0u64;
@@ -145,7 +145,7 @@ impl Sectors {
         sector: u32,
         to: &mut [[u8; B]],
     ) -> Result<(), Stopped>
-        requires fits { Fits B self.now.layout (L.count lines.old) }
+        requires fits { Fits B self.now.layout (L.count (L.kind lines.old)) }
         requires mapped { IsMapped B self.now.layout (stand B (L.made lines.old)) self.now.free }
         requires exists { sector < self.now.layout.sectors }
         requires whole { length to.old ≡ self.now.layout.block }
@@ -155,7 +155,7 @@ impl Sectors {
         ensures made { L.made lines.new ≡ L.made lines.old }
         ensures cause { OnErr result (Rose (L.stops lines.old) (L.stops lines.new)) }
         ensures never_falls { L.stops lines.old ≤ L.stops lines.new }
-        ensures count { L.count lines.new ≡ L.count lines.old }
+        ensures kind { L.kind lines.new ≡ L.kind lines.old }
     {
         let block = find_block(&self.layout, lines, sector)?;
         read_lines(lines, block * self.layout.block, to)
@@ -169,7 +169,7 @@ impl Sectors {
         sector: u32,
         from: &[[u8; B]],
     ) -> Result<(), Stopped>
-        requires fits { Fits B self.old.layout (L.count lines.old) }
+        requires fits { Fits B self.old.layout (L.count (L.kind lines.old)) }
         requires mapped { IsMapped B self.old.layout (stand B (L.made lines.old)) self.old.free }
         requires exists { sector < self.old.layout.sectors }
         requires whole { length from.now ≡ self.old.layout.block }
@@ -186,7 +186,7 @@ impl Sectors {
         ensures layout { self.new.layout ≡ self.old.layout }
         ensures cause { OnErr result (Rose (L.stops lines.old) (L.stops lines.new)) }
         ensures never_falls { L.stops lines.old ≤ L.stops lines.new }
-        ensures count { L.count lines.new ≡ L.count lines.old }
+        ensures kind { L.kind lines.new ≡ L.kind lines.old }
     {
         let block = find_block(&self.layout, lines, sector)?;
         fill(lines, self.free * self.layout.block, from)?;

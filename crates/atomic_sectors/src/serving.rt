@@ -32,14 +32,14 @@ pub fn opened<const B: usize, L: Lines<B>>(
     lines: &mut L,
     known: Option<Sectors>,
 ) -> Result<Sectors, Stopped>
-    requires fits { Fits B layout (L.count lines.old) }
+    requires fits { Fits B layout (L.count (L.kind lines.old)) }
     requires known { IsKnown B layout (L.made lines.old) known }
     ensures layout { IfOk result (λ s. s.layout ≡ layout) }
     ensures mapped { IfOk result (λ s. IsMapped B layout (stand B (L.made lines.old)) s.free) }
     ensures made { L.made lines.new ≡ L.made lines.old }
     ensures cause { OnErr result (Rose (L.stops lines.old) (L.stops lines.new)) }
     ensures never_falls { L.stops lines.old ≤ L.stops lines.new }
-    ensures count { L.count lines.new ≡ L.count lines.old }
+    ensures kind { L.kind lines.new ≡ L.kind lines.old }
 {
     match known {
         Some(sectors) => Ok(sectors),
@@ -55,7 +55,7 @@ pub fn serve<const B: usize, L: Lines<B>>(
     known: Option<Sectors>,
     request: &Request<B>,
 ) -> (Answer<B>, Option<Sectors>)
-    requires fits { Fits B layout (L.count lines.old) }
+    requires fits { Fits B layout (L.count (L.kind lines.old)) }
     requires known { IsKnown B layout (L.made lines.old) known }
     requires asked { IsAsked B layout request.now }
     ensures serves { (before : List Made)
@@ -64,7 +64,7 @@ pub fn serve<const B: usize, L: Lines<B>>(
         × Have B layout (stand B (L.made lines.new)) (content B behind) }
     ensures known { IsKnown B layout (L.made lines.new) result.1 }
     ensures cause { RoseBy (stops_of result.0) (L.stops lines.old) (L.stops lines.new) }
-    ensures count { L.count lines.new ≡ L.count lines.old }
+    ensures kind { L.kind lines.new ≡ L.kind lines.old }
 {
     let sectors = match opened(layout, lines, known) {
         Ok(sectors) => sectors,
@@ -90,7 +90,7 @@ fn read<const B: usize, L: Lines<B>>(
     lines: &mut L,
     sector: u32,
 ) -> (Answer<B>, Option<Sectors>)
-    requires fits { Fits B sectors.layout (L.count lines.old) }
+    requires fits { Fits B sectors.layout (L.count (L.kind lines.old)) }
     requires mapped { IsMapped B sectors.layout (stand B (L.made lines.old)) sectors.free }
     requires exists { sector < sectors.layout.sectors }
     ensures serves { (before : List Made)
@@ -99,7 +99,7 @@ fn read<const B: usize, L: Lines<B>>(
     ensures made { L.made lines.new ≡ L.made lines.old }
     ensures known { IsKnown B sectors.layout (L.made lines.old) result.1 }
     ensures cause { RoseBy (stops_of result.0) (L.stops lines.old) (L.stops lines.new) }
-    ensures count { L.count lines.new ≡ L.count lines.old }
+    ensures kind { L.kind lines.new ≡ L.kind lines.old }
 {
     let Ok(mut to) = zeros::<B>(alloc, sectors.layout.block) else {
         return (Answer::Stopped(Stopped::Memory), Some(sectors));
@@ -117,7 +117,7 @@ fn write<const B: usize, L: Lines<B>>(
     sector: u32,
     from: &[[u8; B]],
 ) -> (Answer<B>, Option<Sectors>)
-    requires fits { Fits B sectors.layout (L.count lines.old) }
+    requires fits { Fits B sectors.layout (L.count (L.kind lines.old)) }
     requires mapped { IsMapped B sectors.layout (stand B (L.made lines.old)) sectors.free }
     requires exists { sector < sectors.layout.sectors }
     requires whole { length from.now ≡ sectors.layout.block }
@@ -130,7 +130,7 @@ fn write<const B: usize, L: Lines<B>>(
         × Have B sectors.layout (stand B (L.made lines.new)) (content B behind) }
     ensures known { IsKnown B sectors.layout (L.made lines.new) result.1 }
     ensures cause { RoseBy (stops_of result.0) (L.stops lines.old) (L.stops lines.new) }
-    ensures count { L.count lines.new ≡ L.count lines.old }
+    ensures kind { L.kind lines.new ≡ L.kind lines.old }
 {
     let mut sectors = sectors;
     match sectors.write(lines, sector, from) {
@@ -149,7 +149,7 @@ pub fn serve_all<const B: usize, L: Lines<B>>(
     lines: &mut L,
     requests: &[Request<B>],
 ) -> Result<Vec<Answer<B>>, AllocError>
-    requires fits { Fits B layout (L.count lines.old) }
+    requires fits { Fits B layout (L.count (L.kind lines.old)) }
     requires whole { IsWhole B layout (stand B (L.made lines.old)) }
     requires asked { All (IsAsked B layout) requests.now }
     ensures served { IfOk result (λ answers. (before : List Made)
@@ -159,7 +159,7 @@ pub fn serve_all<const B: usize, L: Lines<B>>(
     ensures whole { IsWhole B layout (stand B (L.made lines.new)) }
     ensures cause { IfOk result (λ answers. RoseBy (stops_in answers.items) (L.stops lines.old)
         (L.stops lines.new)) }
-    ensures count { L.count lines.new ≡ L.count lines.old }
+    ensures kind { L.kind lines.new ≡ L.kind lines.old }
 {
     let mut known = None;
     let mut answers = Vec::new(alloc);

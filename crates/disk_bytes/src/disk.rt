@@ -40,7 +40,7 @@ impl<const B: usize> Disk<B> {
 
     // Reads a sector into the room.
     fn read_sector<L: Lines<B>>(&mut self, lines: &mut L, sector: u32) -> Result<(), Stopped>
-        requires fits { Fits B self.old.layout (L.count lines.old) }
+        requires fits { Fits B self.old.layout (L.count (L.kind lines.old)) }
         requires ready { IsReady B (L.made lines.old) self.old }
         requires exists { sector < self.old.layout.sectors }
         ensures read { OnOk result ((i : ℕ) → i < self.old.layout.block
@@ -51,7 +51,7 @@ impl<const B: usize> Disk<B> {
         ensures made { L.made lines.new ≡ L.made lines.old }
         ensures cause { OnErr result (Rose (L.stops lines.old) (L.stops lines.new)) }
         ensures never_falls { L.stops lines.old ≤ L.stops lines.new }
-        ensures count { L.count lines.new ≡ L.count lines.old }
+        ensures kind { L.kind lines.new ≡ L.kind lines.old }
     {
         let sectors = opened(self.layout, lines, self.known)?;
         self.known = Some(sectors);
@@ -60,7 +60,7 @@ impl<const B: usize> Disk<B> {
 
     // Writes the sector that is in the room.
     fn write_sector<L: Lines<B>>(&mut self, lines: &mut L, sector: u32) -> Result<(), Stopped>
-        requires fits { Fits B self.old.layout (L.count lines.old) }
+        requires fits { Fits B self.old.layout (L.count (L.kind lines.old)) }
         requires ready { IsReady B (L.made lines.old) self.old }
         requires exists { sector < self.old.layout.sectors }
         ensures written { OnOk result (Have B self.old.layout (stand B (L.made lines.new))
@@ -73,7 +73,7 @@ impl<const B: usize> Disk<B> {
         ensures layout { self.new.layout ≡ self.old.layout }
         ensures cause { OnErr result (Rose (L.stops lines.old) (L.stops lines.new)) }
         ensures never_falls { L.stops lines.old ≤ L.stops lines.new }
-        ensures count { L.count lines.new ≡ L.count lines.old }
+        ensures kind { L.kind lines.new ≡ L.kind lines.old }
     {
         let mut sectors = opened(self.layout, lines, self.known)?;
         self.known = None;
@@ -84,7 +84,7 @@ impl<const B: usize> Disk<B> {
 
     // Reads the sector of a piece into the room, where the piece doesn't give all of its bytes.
     fn read_rest<L: Lines<B>>(&mut self, lines: &mut L, piece: Piece) -> Result<(), Stopped>
-        requires fits { Fits B self.old.layout (L.count lines.old) }
+        requires fits { Fits B self.old.layout (L.count (L.kind lines.old)) }
         requires ready { IsReady B (L.made lines.old) self.old }
         requires exists { piece.sector < self.old.layout.sectors }
         requires inside { piece.begin + piece.size ≤ sector_size B self.old.layout }
@@ -98,7 +98,7 @@ impl<const B: usize> Disk<B> {
         ensures made { L.made lines.new ≡ L.made lines.old }
         ensures cause { OnErr result (Rose (L.stops lines.old) (L.stops lines.new)) }
         ensures never_falls { L.stops lines.old ≤ L.stops lines.new }
-        ensures count { L.count lines.new ≡ L.count lines.old }
+        ensures kind { L.kind lines.new ≡ L.kind lines.old }
     {
         if piece.size < self.layout.block as usize * B {
             self.read_sector(lines, piece.sector)
@@ -116,7 +116,7 @@ impl<const B: usize> Disk<B> {
         bytes: &[u8],
         done: usize,
     ) -> Result<(), Stopped>
-        requires fits { Fits B self.old.layout (L.count lines.old) }
+        requires fits { Fits B self.old.layout (L.count (L.kind lines.old)) }
         requires ready { IsReady B (L.made lines.old) self.old }
         requires exists { piece.sector < self.old.layout.sectors }
         requires inside { piece.begin + piece.size ≤ sector_size B self.old.layout }
@@ -128,7 +128,7 @@ impl<const B: usize> Disk<B> {
         ensures made { L.made lines.new ≡ L.made lines.old }
         ensures cause { OnErr result (Rose (L.stops lines.old) (L.stops lines.new)) }
         ensures never_falls { L.stops lines.old ≤ L.stops lines.new }
-        ensures count { L.count lines.new ≡ L.count lines.old }
+        ensures kind { L.kind lines.new ≡ L.kind lines.old }
     {
         self.read_rest(lines, piece)?;
         lay(
@@ -148,7 +148,7 @@ impl<const B: usize> Disk<B> {
         at: u64,
         to: &mut [u8],
     ) -> Result<(), Stopped>
-        requires fits { Fits B self.old.layout (L.count lines.old) }
+        requires fits { Fits B self.old.layout (L.count (L.kind lines.old)) }
         requires ready { IsReady B (L.made lines.old) self.old }
         requires within { at + length to.old ≤ disk_size B self.old.layout }
         ensures read { OnOk result ((i : ℕ) → i < length to.old → slice_index to.new i
@@ -159,7 +159,7 @@ impl<const B: usize> Disk<B> {
         ensures made { L.made lines.new ≡ L.made lines.old }
         ensures cause { OnErr result (Rose (L.stops lines.old) (L.stops lines.new)) }
         ensures never_falls { L.stops lines.old ≤ L.stops lines.new }
-        ensures count { L.count lines.new ≡ L.count lines.old }
+        ensures kind { L.kind lines.new ≡ L.kind lines.old }
     {
         let mut done = 0;
         while done < to.len() {
@@ -180,7 +180,7 @@ impl<const B: usize> Disk<B> {
         bytes: &[u8],
         done: usize,
     ) -> Result<usize, Stopped>
-        requires fits { Fits B self.old.layout (L.count lines.old) }
+        requires fits { Fits B self.old.layout (L.count (L.kind lines.old)) }
         requires ready { IsReady B (L.made lines.old) self.old }
         requires within { at + length bytes.now ≤ disk_size B self.old.layout }
         requires left { done < length bytes.now }
@@ -202,7 +202,7 @@ impl<const B: usize> Disk<B> {
         ensures layout { self.new.layout ≡ self.old.layout }
         ensures cause { OnErr result (Rose (L.stops lines.old) (L.stops lines.new)) }
         ensures never_falls { L.stops lines.old ≤ L.stops lines.new }
-        ensures count { L.count lines.new ≡ L.count lines.old }
+        ensures kind { L.kind lines.new ≡ L.kind lines.old }
     {
         pieces_make_a_write();
         let piece = first_piece::<B>(self.layout, at + done as u64, bytes.len() - done);
@@ -219,7 +219,7 @@ impl<const B: usize> Disk<B> {
         at: u64,
         bytes: &[u8],
     ) -> Result<(), Stopped>
-        requires fits { Fits B self.old.layout (L.count lines.old) }
+        requires fits { Fits B self.old.layout (L.count (L.kind lines.old)) }
         requires ready { IsReady B (L.made lines.old) self.old }
         requires within { at + length bytes.now ≤ disk_size B self.old.layout }
         ensures written { OnOk result ((before : List Written)
@@ -234,7 +234,7 @@ impl<const B: usize> Disk<B> {
         ensures layout { self.new.layout ≡ self.old.layout }
         ensures cause { OnErr result (Rose (L.stops lines.old) (L.stops lines.new)) }
         ensures never_falls { L.stops lines.old ≤ L.stops lines.new }
-        ensures count { L.count lines.new ≡ L.count lines.old }
+        ensures kind { L.kind lines.new ≡ L.kind lines.old }
     {
         let mut done = 0;
         while done < bytes.len() {
@@ -245,7 +245,7 @@ impl<const B: usize> Disk<B> {
 
     /// How many bytes it has.
     pub fn size<L: Lines<B>>(&self, lines: &L) -> u64
-        requires fits { Fits B self.now.layout (L.count lines.now) }
+        requires fits { Fits B self.now.layout (L.count (L.kind lines.now)) }
         ensures { result ≡ disk_size B self.now.layout }
     {
         u64::from(self.layout.sectors) * (u64::from(self.layout.block) * B as u64)
@@ -253,7 +253,7 @@ impl<const B: usize> Disk<B> {
 
     /// Why so many bytes from an offset on can't be asked of it, if they can't.
     pub fn refusal<L: Lines<B>>(&self, lines: &L, at: u64, asked: u64) -> Option<Refusal>
-        requires fits { Fits B self.now.layout (L.count lines.now) }
+        requires fits { Fits B self.now.layout (L.count (L.kind lines.now)) }
         ensures { result ≡ refusal (disk_size B self.now.layout) at asked }
     {
         let size = self.size(lines);

@@ -21,7 +21,7 @@ pub fn serve<const B: usize, L: Lines<B>>(
     lines: &mut L,
     request: &Request,
 ) -> Answer
-    requires fits { Fits B disk.old.layout (L.count lines.old) }
+    requires fits { Fits B disk.old.layout (L.count (L.kind lines.old)) }
     requires ready { IsReady B (L.made lines.old) disk.old }
     ensures served { (asked : List (Request × Answer))
         → IsServed B disk.old.layout asked (L.made lines.old)
@@ -29,7 +29,7 @@ pub fn serve<const B: usize, L: Lines<B>>(
     ensures ready { IsReady B (L.made lines.new) disk.new }
     ensures layout { disk.new.layout ≡ disk.old.layout }
     ensures cause { RoseBy (stops_of result) (L.stops lines.old) (L.stops lines.new) }
-    ensures count { L.count lines.new ≡ L.count lines.old }
+    ensures kind { L.kind lines.new ≡ L.kind lines.old }
 {
     match request {
         Request::Read { at, size } => read(alloc, disk, lines, *at, *size),
@@ -53,14 +53,14 @@ fn read<const B: usize, L: Lines<B>>(
     at: u64,
     size: u32,
 ) -> Answer
-    requires fits { Fits B disk.old.layout (L.count lines.old) }
+    requires fits { Fits B disk.old.layout (L.count (L.kind lines.old)) }
     requires ready { IsReady B (L.made lines.old) disk.old }
     ensures reads { Reads B disk.old.layout (stand B (L.made lines.old)) at size result }
     ensures made { L.made lines.new ≡ L.made lines.old }
     ensures ready { IsReady B (L.made lines.old) disk.new }
     ensures layout { disk.new.layout ≡ disk.old.layout }
     ensures cause { RoseBy (stops_of result) (L.stops lines.old) (L.stops lines.new) }
-    ensures count { L.count lines.new ≡ L.count lines.old }
+    ensures kind { L.kind lines.new ≡ L.kind lines.old }
 {
     if let Some(refusal) = disk.refusal(lines, at, u64::from(size)) {
         return Answer::Refused(refusal);
@@ -81,7 +81,7 @@ fn write<const B: usize, L: Lines<B>>(
     at: u64,
     bytes: &[u8],
 ) -> Answer
-    requires fits { Fits B disk.old.layout (L.count lines.old) }
+    requires fits { Fits B disk.old.layout (L.count (L.kind lines.old)) }
     requires ready { IsReady B (L.made lines.old) disk.old }
     ensures writes { (before : List Written)
         → HoldsDisk B disk.old.layout (stand B (L.made lines.old)) before
@@ -89,7 +89,7 @@ fn write<const B: usize, L: Lines<B>>(
     ensures ready { IsReady B (L.made lines.new) disk.new }
     ensures layout { disk.new.layout ≡ disk.old.layout }
     ensures cause { RoseBy (stops_of result) (L.stops lines.old) (L.stops lines.new) }
-    ensures count { L.count lines.new ≡ L.count lines.old }
+    ensures kind { L.kind lines.new ≡ L.kind lines.old }
 {
     if let Some(refusal) = disk.refusal(lines, at, bytes.len() as u64) {
         return Answer::Refused(refusal);
@@ -111,7 +111,7 @@ pub fn serve_all<const B: usize, L: Lines<B>>(
     lines: &mut L,
     requests: &[Request],
 ) -> Result<Vec<Answer>, AllocError>
-    requires fits { Fits B disk.old.layout (L.count lines.old) }
+    requires fits { Fits B disk.old.layout (L.count (L.kind lines.old)) }
     requires ready { IsReady B (L.made lines.old) disk.old }
     ensures served { IfOk result (λ answers. (asked : List (Request × Answer))
         → IsServed B disk.old.layout asked (L.made lines.old)
@@ -121,7 +121,7 @@ pub fn serve_all<const B: usize, L: Lines<B>>(
     ensures layout { disk.new.layout ≡ disk.old.layout }
     ensures cause { IfOk result (λ answers. RoseBy (stops_in answers.items) (L.stops lines.old)
         (L.stops lines.new)) }
-    ensures count { L.count lines.new ≡ L.count lines.old }
+    ensures kind { L.kind lines.new ≡ L.kind lines.old }
 {
     let mut answers = Vec::new(alloc);
     for request in requests {

@@ -1,5 +1,5 @@
 -- What a module was asked, one row more or some time later.
-use Rattle.std.proofs.Common.{◌≡◌, ℕ, ◌+◌, ◌-◌, ◌^◌, ◌<◌, ◌≤◌, ◌||◌, nat_le, min, max, Bool, true, false, cond, List, ◌∷◌, ◌++◌, length, refl, sym, ap, ◌∙◌, subst, arith, inl, inr}
+use Rattle.std.proofs.Common.{◌≡◌, ℕ, ◌+◌, ◌-◌, ◌^◌, ◌<◌, ◌≤◌, ◌||◌, nat_le, min, max, Bool, true, false, cond, List, ◌∷◌, ◌++◌, length, refl, sym, ap, ◌∙◌, subst, arith}
 use Rattle.std.{specs.Prelude.{IfErr, IsSomeAnd, OnErr, Option, Some, Result, Ok, Err, slice_get}, proofs.lemmas.Bool.Decides.nat_tests}
 use Rattle.pcm_io.specs.Faults.{Rose}
 use Rattle.cell_rows.specs.Device.{ArrayState}
@@ -124,8 +124,8 @@ module _ {n m e : ℕ} (one two three : ModuleState n m e) (was then_ now : List
   -- a cause of what came later is one of all
   pub cause-later : (why : Stopped) (tick : ℕ) → IsLater one two was then_ → HasCause why tick then_ now → HasCause why tick was now
   cause-later out.Cut tick a cause = omega (arith, a.cuts, cause)
-  cause-later out.Worn tick a (inl cause) = inl (omega (arith, a.refused, cause))
-  cause-later out.Worn tick a (inr cause) = inr cause
+  cause-later out.Worn tick a cause = omega (arith, a.refused, cause)
+  cause-later out.Ended tick a cause = cause
   cause-later out.Memory tick a cause = cause
 
 -- the count of stops never falls, and rises by what is a cause
@@ -161,11 +161,11 @@ module _ {n m e : ℕ} (old new : ModuleState n m e) (was now : List (Heard n)) 
   stops-rose out.Cut cause =
       rose_flags (has_ended old.tick was) (has_ended new.tick now) (cuts_in (events_in was) + refusals_in was) (cuts_in (events_in now) + refusals_in now) (2 ^ 64 - 1)
       still-ended (omega (arith, cause, later.refused))
-  stops-rose out.Worn (inl cause) =
+  stops-rose out.Worn cause =
       rose_flags (has_ended old.tick was) (has_ended new.tick now) (cuts_in (events_in was) + refusals_in was) (cuts_in (events_in now) + refusals_in now) (2 ^ 64 - 1)
       still-ended (omega (arith, cause, later.cuts))
   stops-rose out.Memory cause = absurd cause
-  stops-rose out.Worn (inr cause) =
+  stops-rose out.Ended cause =
       ended_flag (has_ended new.tick now) (stops_at old.tick was + 1) (cuts_in (events_in now) + refusals_in now) (2 ^ 64 - 1) cause
 
 -- no bank is past the last tick

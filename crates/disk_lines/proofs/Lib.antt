@@ -5,3 +5,5 @@ mod Asking
 mod Making
 mod Reading
 mod Disks
+mod Cutting
+mod Staying

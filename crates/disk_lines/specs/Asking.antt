@@ -1,5 +1,5 @@
 -- What a module was asked by a disk, and by which rows its lines stand.
-use Rattle.std.specs.Prelude.{◌≡◌, ◌⊎◌, ℕ, ◌+◌, ◌-◌, ◌^◌, ◌<◌, ◌≤◌, ◌==◌, ◌&&◌, ◌||◌, not, nat_le, Bool, true, false, if◌then◌else◌, max, List, [], ◌∷◌, length}
+use Rattle.std.specs.Prelude.{◌≡◌, ℕ, ◌+◌, ◌-◌, ◌^◌, ◌<◌, ◌≤◌, ◌==◌, ◌&&◌, ◌||◌, not, nat_le, Bool, true, false, if◌then◌else◌, max, List, [], ◌∷◌, length}
 use Rattle.masked_bytes.specs.Masked.{laid}
 use Rattle.cell_rows.specs.Device.{ArrayState}
 use Rattle.trace_reader.specs.{Rows.latest_tick, declared.event.Event.Event, declared.event.EventOp.EventOp}
@@ -16,7 +16,7 @@ use Rattle.read_moments.specs.Reads.{rows_by, standing}
 use Rattle.row_stream.specs.Serving.{HasServed}
 use Rattle.atomic_sectors.specs.declared.lines.Stopped.{Stopped}
 use Rattle.atomic_sectors.specs.declared.lines.Stopped.TheVariants as why
-use Rattle.disk_lines.specs.{Hearing.{Hearing, cuts_in, events_in, refusals_in, refuses_by, table_in}, declared.watch.Heard.Heard}
+use Rattle.disk_lines.specs.{Hearing.{Hearing, cuts_by, cuts_in, events_in, refusals_in, refuses_by, table_in}, declared.watch.Heard.Heard}
 
 -- the most rows that come
 abbrev pub most_rows : ℕ
@@ -34,6 +34,7 @@ module _ {n : ℕ} where
   -- an operation writes those bytes of a line that are given: it lays them over what the line had, where it is accepted, and else it is
   -- refused
   pub record IsWriteOf (place : ℕ) (bytes : List ℕ) (given : List Bool) (op : EventOp n) : Type 0 where
+    pub no_cut : cuts_by op ≡ 0
     pub lays : (tick line : ℕ) (outcome : Outcome n) (under : List ℕ) → length under ≡ n
         → lay_row line (row_standing (record { tick = tick; op = op }) outcome) under
         ≡ (if (place == line) && accepts (ended tick outcome) then laid bytes given under else under)
@@ -50,11 +51,11 @@ module _ {n : ℕ} where
   stops_at tick heard =
       if has_ended tick heard then max (cuts_in (events_in heard) + refusals_in heard) (2 ^ 64 - 1) else cuts_in (events_in heard) + refusals_in heard
 
-  -- why a call was stopped shows in what was heard before it and behind it: a power cut came; or no more is written, since
-  -- a write was refused or nothing comes any more
+  -- why a call was stopped shows in what was heard before it and behind it: a power cut came; a write was refused; or nothing comes any more
   abbrev pub HasCause : Stopped → ℕ → List (Heard n) → List (Heard n) → Type 0
   HasCause why.Cut tick was now = cuts_in (events_in was) < cuts_in (events_in now)
-  HasCause why.Worn tick was now = (refusals_in was < refusals_in now) ⊎ (has_ended tick now ≡ true)
+  HasCause why.Worn tick was now = refusals_in was < refusals_in now
+  HasCause why.Ended tick was now = has_ended tick now ≡ true
   HasCause why.Memory tick was now = ⊥
 
 -- a module, over its array, was handed exactly the rows that were heard of, and gave exactly the outcomes that were

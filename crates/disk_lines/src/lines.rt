@@ -1,10 +1,12 @@
 // The lines of a module as the lines of a disk.
-ghost use Rattle.std.specs.Prelude.{◌≡◌, ◌≤◌, [], IfOk};
-ghost use Rattle.cell_rows.specs.Device.{IsWear};
+ghost use Rattle.std.specs.Prelude.{◌≡◌, ◌*◌, ◌≤◌, [], IfOk};
+ghost use Rattle.cell_rows.specs.Device.{IsFresh, IsWear};
 ghost use Rattle.ecp_line.specs.Layout.{IsLayout};
 ghost use Rattle.bank_shape.specs.declared.Home.TheVariants.{Array};
+ghost use Rattle.module_shape.specs.Addresses.{array_lines_of, module_of};
 ghost use Rattle.module_shape.specs.Limits.{IsShape};
 ghost use Rattle.disk_lines.specs.Asking.{HasHeard};
+ghost use Rattle.disk_lines.specs.Cutting.{CutsCome, come_from};
 ghost use Rattle.disk_lines.specs.Lines.{StandsByRows};
 
 use crate::cuts::Cuts;
@@ -32,6 +34,7 @@ pub struct PcmLines<const B: usize, const M: usize, const E: usize, A: CellArray
 impl<const B: usize, const M: usize, const E: usize, A: CellArray<B, M> + Drop> Model
     for PcmLines<B, M, E, A> {
     ghost use Rattle.ghost_list.specs.Items.{newest};
+    ghost use Rattle.disk_lines.specs.Cutting.{all_cuts};
     ghost use Rattle.disk_lines.specs.Lines.{OnModule, IsOnModule};
 
     ghost Value = { OnModule B M E A };
@@ -41,6 +44,7 @@ impl<const B: usize, const M: usize, const E: usize, A: CellArray<B, M> + Drop> 
       array = p.running.array;
       heard = p.running.watch.heard;
       puts = newest p.puts;
+      cuts = all_cuts p.running.module.tick p.running.watch.heard p.running.cuts;
     } };
 
     ghost invariant = { λ p. IsOnModule p.places p.running.module (A.state p.running.array)
@@ -68,6 +72,9 @@ impl<const B: usize, const M: usize, const E: usize, A: CellArray<B, M> + Drop> 
         requires wear { IsWear wear }
         ensures shape { IfOk result (λ p. (p.module_.shape ≡ shape) × (p.module_.seed ≡ seed)) }
         ensures new { IfOk result (λ p. (p.heard ≡ []) × (p.puts ≡ [])) }
+        ensures cuts { IfOk result (λ p. p.cuts ≡ come_from 0 cuts.items) }
+        ensures fresh { IfOk result (λ p. IsFresh (shape.banks * array_lines_of (module_of shape)) wear
+            (A.state p.array)) }
     {
         let mut array = array;
         array.power_up(alloc, shape.array_lines(), wear)?;
@@ -89,10 +96,11 @@ impl<const B: usize, const M: usize, const E: usize, A: CellArray<B, M> + Drop> 
         })
     }
 
-    /// The module was handed exactly the rows that were heard of, and each line stands by them.
+    /// The module was handed exactly the rows that were heard of, each line stands by them, and the power was cut by them as it was to be.
     pub fn stands(&self)
         ensures has { HasHeard self.now.module_ (A.state self.now.array) self.now.heard }
         ensures stands { StandsByRows self.now.module_ self.now.heard self.now.puts }
+        ensures cuts { CutsCome self.now.cuts self.now.heard self.now.module_.tick }
         ensures shape { IsShape self.now.module_.shape }
     {
         // A field that is read makes known what is true of all of them.
@@ -104,9 +112,13 @@ impl<const B: usize, const M: usize, const E: usize, A: CellArray<B, M> + Drop> 
     for PcmLines<B, M, E, A> {
     ghost use Rattle.module_shape.specs.Limits.{total_of};
     ghost use Rattle.disk_lines.specs.Asking.{stops_at};
-    ghost use Rattle.disk_lines.specs.Lines.{writes_of};
+    ghost use Rattle.disk_lines.specs.Lines.{Kind, kind_on, writes_of};
 
-    ghost count = { λ p. total_of p.module_.shape };
+    ghost Kind = { Kind };
+
+    ghost kind = { λ p. kind_on A.state p };
+
+    ghost count = { λ kind. total_of kind.shape };
 
     ghost made = { λ p. writes_of p.puts };
 

@@ -1,5 +1,5 @@
 // A module over its array as rows come.
-ghost use Rattle.std.specs.Prelude.{◌≡◌, ◌<◌, ◌≤◌, length, IfOk, IfErr, OnOk, OnErr, IfSome, false};
+ghost use Rattle.std.specs.Prelude.{◌≡◌, ◌∷◌, ◌<◌, ◌≤◌, length, IfOk, IfErr, OnOk, OnErr, IfSome, false};
 ghost use Rattle.ecp_line.specs.Layout.{IsLayout};
 ghost use Rattle.trace_reader.specs.Events.{IsEventFor};
 ghost use Rattle.trace_reader.specs.Rows.{latest_tick};
@@ -7,7 +7,9 @@ ghost use Rattle.row_rules.specs.Rows.{newest};
 ghost use Rattle.module_shape.specs.Limits.{total_of};
 ghost use Rattle.disk_lines.specs.Asking.{HasCause, HasHeard, IsLater, LaysOver, Passes, SameLines, TakesRow, is_full, rows_heard, most_rows};
 ghost use Rattle.pcm_module.specs.State.{bank_at};
+ghost use Rattle.disk_lines.specs.Cutting.{come_from, left_of, left_behind};
 ghost use Rattle.disk_lines.specs.Hearing.{events_in};
+ghost use Rattle.disk_lines.specs.Lines.{kind_at};
 
 use crate::cuts::Cuts;
 use crate::masks::{answer, is_accepted, is_open, write_op};
@@ -56,6 +58,8 @@ impl<const B: usize, const M: usize, const E: usize, A: CellArray<B, M> + Drop> 
         requires has { HasHeard self.old.module (A.state self.old.array) self.old.watch.heard }
         ensures has { HasHeard self.new.module (A.state self.new.array) self.new.watch.heard }
         ensures takes { TakesRow self.old.module self.new.module event.now self.old.watch self.new.watch }
+        ensures wear { (A.state self.new.array).wear ≡ (A.state self.old.array).wear }
+        ensures cuts { self.new.cuts ≡ self.old.cuts }
     {
         no_row_takes_back_bytes();
         let _ = self.watch.rows();
@@ -78,6 +82,8 @@ impl<const B: usize, const M: usize, const E: usize, A: CellArray<B, M> + Drop> 
         ensures has { HasHeard self.new.module (A.state self.new.array) self.new.watch.heard }
         ensures passes { Passes self.old.module self.new.module tick self.old.watch.heard
             self.new.watch.heard }
+        ensures wear { (A.state self.new.array).wear ≡ (A.state self.old.array).wear }
+        ensures cuts { self.new.cuts ≡ self.old.cuts }
     {
         no_settle_takes_back_bytes();
         let _ = self.module.shape();
@@ -85,26 +91,32 @@ impl<const B: usize, const M: usize, const E: usize, A: CellArray<B, M> + Drop> 
         let _ = self.watch.rows();
     }
 
-    // The power is cut at a tick, where one row more may come.
+    // The power is cut at the tick of the next cut, where one row more may come.
     fn cut(&mut self, tick: u64) -> Stopped
         requires layout { IsLayout B M E }
         requires rises { self.old.module.tick ≤ tick }
         requires in_time { tick ≤ latest_tick }
+        requires some { self.old.cuts.came < length self.old.cuts.ticks.items }
+        requires next { come_from self.old.module.tick (left_of self.old.cuts)
+            ≡ tick ∷ come_from tick (left_behind self.old.cuts) }
         requires has { HasHeard self.old.module (A.state self.old.array) self.old.watch.heard }
         ensures has { HasHeard self.new.module (A.state self.new.array) self.new.watch.heard }
         ensures later { IsLater self.old.module self.new.module self.old.watch.heard self.new.watch.heard }
+        ensures kind { kind_at self.new.module (A.state self.new.array) self.new.watch.heard self.new.cuts
+            ≡ kind_at self.old.module (A.state self.old.array) self.old.watch.heard self.old.cuts }
         ensures same { SameLines self.old.module self.new.module self.old.watch.heard
             self.new.watch.heard }
         ensures cause { HasCause result self.new.module.tick self.old.watch.heard self.new.watch.heard }
     {
         if self.watch.rows() >= LAST_ROW {
-            return Stopped::Worn;
+            return Stopped::Ended;
         }
         let event = Event {
             tick,
             op: EventOp::Cut,
         };
         self.hand_in(&event);
+        self.cuts.came += 1;
         Stopped::Cut
     }
 
@@ -116,6 +128,8 @@ impl<const B: usize, const M: usize, const E: usize, A: CellArray<B, M> + Drop> 
         requires has { HasHeard self.old.module (A.state self.old.array) self.old.watch.heard }
         ensures has { HasHeard self.new.module (A.state self.new.array) self.new.watch.heard }
         ensures later { IsLater self.old.module self.new.module self.old.watch.heard self.new.watch.heard }
+        ensures kind { kind_at self.new.module (A.state self.new.array) self.new.watch.heard self.new.cuts
+            ≡ kind_at self.old.module (A.state self.old.array) self.old.watch.heard self.old.cuts }
         ensures same { SameLines self.old.module self.new.module self.old.watch.heard
             self.new.watch.heard }
         ensures cause { IfErr result (λ why. HasCause why self.new.module.tick self.old.watch.heard
@@ -143,7 +157,7 @@ impl<const B: usize, const M: usize, const E: usize, A: CellArray<B, M> + Drop> 
     {
         let now = self.module.tick();
         if now >= LAST_TICK {
-            return Err(Stopped::Worn);
+            return Err(Stopped::Ended);
         }
         let next = self.module.timed(bank).next_end(LAST_TICK);
         Ok(next.min(LAST_TICK).max(now + 1))
@@ -156,6 +170,8 @@ impl<const B: usize, const M: usize, const E: usize, A: CellArray<B, M> + Drop> 
         requires has { HasHeard self.old.module (A.state self.old.array) self.old.watch.heard }
         ensures has { HasHeard self.new.module (A.state self.new.array) self.new.watch.heard }
         ensures later { IsLater self.old.module self.new.module self.old.watch.heard self.new.watch.heard }
+        ensures kind { kind_at self.new.module (A.state self.new.array) self.new.watch.heard self.new.cuts
+            ≡ kind_at self.old.module (A.state self.old.array) self.old.watch.heard self.old.cuts }
         ensures same { SameLines self.old.module self.new.module self.old.watch.heard
             self.new.watch.heard }
         ensures cause { IfErr result (λ why. HasCause why self.new.module.tick self.old.watch.heard
@@ -175,6 +191,8 @@ impl<const B: usize, const M: usize, const E: usize, A: CellArray<B, M> + Drop> 
         requires has { HasHeard self.old.module (A.state self.old.array) self.old.watch.heard }
         ensures has { HasHeard self.new.module (A.state self.new.array) self.new.watch.heard }
         ensures later { IsLater self.old.module self.new.module self.old.watch.heard self.new.watch.heard }
+        ensures kind { kind_at self.new.module (A.state self.new.array) self.new.watch.heard self.new.cuts
+            ≡ kind_at self.old.module (A.state self.old.array) self.old.watch.heard self.old.cuts }
         ensures same { SameLines self.old.module self.new.module self.old.watch.heard
             self.new.watch.heard }
         ensures cause { IfErr result (λ why. HasCause why self.new.module.tick self.old.watch.heard
@@ -203,6 +221,8 @@ impl<const B: usize, const M: usize, const E: usize, A: CellArray<B, M> + Drop> 
         requires has { HasHeard self.old.module (A.state self.old.array) self.old.watch.heard }
         ensures has { HasHeard self.new.module (A.state self.new.array) self.new.watch.heard }
         ensures later { IsLater self.old.module self.new.module self.old.watch.heard self.new.watch.heard }
+        ensures kind { kind_at self.new.module (A.state self.new.array) self.new.watch.heard self.new.cuts
+            ≡ kind_at self.old.module (A.state self.old.array) self.old.watch.heard self.old.cuts }
         ensures same { SameLines self.old.module self.new.module self.old.watch.heard
             self.new.watch.heard }
         ensures cause { IfErr result (λ why. HasCause why self.new.module.tick self.old.watch.heard
@@ -221,16 +241,20 @@ impl<const B: usize, const M: usize, const E: usize, A: CellArray<B, M> + Drop> 
         requires has { HasHeard self.old.module (A.state self.old.array) self.old.watch.heard }
         ensures has { HasHeard self.new.module (A.state self.new.array) self.new.watch.heard }
         ensures later { IsLater self.old.module self.new.module self.old.watch.heard self.new.watch.heard }
+        ensures kind { kind_at self.new.module (A.state self.new.array) self.new.watch.heard self.new.cuts
+            ≡ kind_at self.old.module (A.state self.old.array) self.old.watch.heard self.old.cuts }
         ensures same { SameLines self.old.module self.new.module self.old.watch.heard
             self.new.watch.heard }
         ensures cause { IfErr result (λ why. HasCause why self.new.module.tick self.old.watch.heard
             self.new.watch.heard) }
         ensures next { IfOk result (λ tick. (self.new.module.tick ≤ tick) × (tick ≤ latest_tick)
             × (length (events_in self.new.watch.heard) < most_rows)) }
+        ensures quiet { IfOk result (λ tick. come_from tick (left_of self.new.cuts)
+            ≡ come_from self.new.module.tick (left_of self.new.cuts)) }
     {
         let now = self.module.tick();
         if now >= LAST_TICK || self.watch.rows() >= LAST_ROW {
-            return Err(Stopped::Worn);
+            return Err(Stopped::Ended);
         }
         match self.cuts.due_by(now, now + 1) {
             Some(at) => Err(self.cut(at)),
@@ -246,6 +270,8 @@ impl<const B: usize, const M: usize, const E: usize, A: CellArray<B, M> + Drop> 
         requires has { HasHeard self.old.module (A.state self.old.array) self.old.watch.heard }
         ensures has { HasHeard self.new.module (A.state self.new.array) self.new.watch.heard }
         ensures later { IsLater self.old.module self.new.module self.old.watch.heard self.new.watch.heard }
+        ensures kind { kind_at self.new.module (A.state self.new.array) self.new.watch.heard self.new.cuts
+            ≡ kind_at self.old.module (A.state self.old.array) self.old.watch.heard self.old.cuts }
         ensures same { SameLines self.old.module self.new.module self.old.watch.heard
             self.new.watch.heard }
         ensures cause { IfErr result (λ why. HasCause why self.new.module.tick self.old.watch.heard
@@ -276,6 +302,8 @@ impl<const B: usize, const M: usize, const E: usize, A: CellArray<B, M> + Drop> 
         requires has { HasHeard self.old.module (A.state self.old.array) self.old.watch.heard }
         ensures has { HasHeard self.new.module (A.state self.new.array) self.new.watch.heard }
         ensures later { IsLater self.old.module self.new.module self.old.watch.heard self.new.watch.heard }
+        ensures kind { kind_at self.new.module (A.state self.new.array) self.new.watch.heard self.new.cuts
+            ≡ kind_at self.old.module (A.state self.old.array) self.old.watch.heard self.old.cuts }
         ensures same { SameLines self.old.module self.new.module self.old.watch.heard
             self.new.watch.heard }
         ensures cause { IfErr result (λ why. HasCause why self.new.module.tick self.old.watch.heard
@@ -304,6 +332,8 @@ impl<const B: usize, const M: usize, const E: usize, A: CellArray<B, M> + Drop> 
         requires has { HasHeard self.old.module (A.state self.old.array) self.old.watch.heard }
         ensures has { HasHeard self.new.module (A.state self.new.array) self.new.watch.heard }
         ensures later { IsLater self.old.module self.new.module self.old.watch.heard self.new.watch.heard }
+        ensures kind { kind_at self.new.module (A.state self.new.array) self.new.watch.heard self.new.cuts
+            ≡ kind_at self.old.module (A.state self.old.array) self.old.watch.heard self.old.cuts }
         ensures lays { OnOk result (LaysOver self.old.module self.new.module place bytes.now given.now
             self.old.watch.heard self.new.watch.heard) }
         ensures same { OnErr result (SameLines self.old.module self.new.module self.old.watch.heard

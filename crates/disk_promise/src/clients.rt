@@ -6,7 +6,8 @@ ghost use Rattle.disk_rules.specs.declared.{Request.Request, Answer.Answer};
 ghost use Rattle.disk_bytes.specs.Parts.{IsReady};
 ghost use Rattle.disk_bytes.specs.Serving.{IsServed};
 ghost use Rattle.disk_lines.specs.Asking.{HasHeard};
-ghost use Rattle.disk_lines.specs.Lines.{writes_of};
+ghost use Rattle.disk_lines.specs.Cutting.{CutsCome};
+ghost use Rattle.disk_lines.specs.Lines.{kind_on, writes_of};
 ghost use Rattle.disk_server.specs.Messages.{asked};
 ghost use Rattle.disk_server.specs.Sessions.{IsSession, seen};
 ghost use Rattle.disk_promise.specs.Clients.{made_on, stops_on};
@@ -58,7 +59,8 @@ pub fn serve_client<
     ensures has { HasHeard lines.new.module_ (A.state lines.new.array) lines.new.heard }
     ensures ready { IsReady B (writes_of lines.new.puts) disk.new }
     ensures layout { disk.new.layout ≡ disk.old.layout }
-    ensures count { total_of lines.new.module_.shape ≡ total_of lines.old.module_.shape }
+    ensures kind { kind_on A.state lines.new ≡ kind_on A.state lines.old }
+    ensures cuts { CutsCome lines.new.cuts lines.new.heard lines.new.module_.tick }
 {
     new_lines_are_a_new_disk();
     lines_that_agree_are_one_disk();

@@ -11,7 +11,8 @@ ghost use Rattle.disk_rules.specs.declared.{Request.Request, Answer.Answer};
 ghost use Rattle.disk_bytes.specs.Parts.{IsReady};
 ghost use Rattle.disk_bytes.specs.Serving.{IsServed, stops_in};
 ghost use Rattle.disk_lines.specs.Asking.{HasHeard, stops_at};
-ghost use Rattle.disk_lines.specs.Lines.{writes_of};
+ghost use Rattle.disk_lines.specs.Cutting.{CutsCome};
+ghost use Rattle.disk_lines.specs.Lines.{kind_on, writes_of};
 ghost use Rattle.disk_promise.specs.Keeping.{DiskLaw, IsDiskKept};
 
 mod clients;
@@ -68,7 +69,8 @@ pub fn serve_disk<const B: usize, const M: usize, const E: usize, A: CellArray<B
     ensures cause { IfOk result (λ answers. RoseBy (stops_in answers.items)
         (stops_at lines.old.module_.tick lines.old.heard)
         (stops_at lines.new.module_.tick lines.new.heard)) }
-    ensures count { total_of lines.new.module_.shape ≡ total_of lines.old.module_.shape }
+    ensures kind { kind_on A.state lines.new ≡ kind_on A.state lines.old }
+    ensures cuts { CutsCome lines.new.cuts lines.new.heard lines.new.module_.tick }
 {
     new_lines_are_a_new_disk();
     no_moment_loses_a_disk();

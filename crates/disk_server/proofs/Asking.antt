@@ -14,6 +14,7 @@ cut_is (says.Bytes bytes) is = absurd cc
 cut_is (says.Refused reason) is = absurd cc
 cut_is (says.Stopped why.Cut) is = refl
 cut_is (says.Stopped why.Worn) is = absurd cc
+cut_is (says.Stopped why.Ended) is = absurd cc
 cut_is (says.Stopped why.Memory) is = absurd cc
 
 module _ (n : ℕ) (layout : Layout) (request : Request) where

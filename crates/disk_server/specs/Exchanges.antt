@@ -70,6 +70,7 @@ failure_of (Write at bytes) (says.Refused refusal.Outside) = Some fails.NoSpace
 failure_of request (says.Refused reason) = Some fails.Invalid
 failure_of request (says.Stopped why.Cut) = Some fails.Shutdown
 failure_of request (says.Stopped why.Worn) = Some fails.Io
+failure_of request (says.Stopped why.Ended) = Some fails.Io
 failure_of request (says.Stopped why.Memory) = Some fails.NoMemory
 
 -- the bytes that an answer has

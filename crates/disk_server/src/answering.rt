@@ -41,13 +41,13 @@ fn ride<const B: usize, L: Lines<B>>(
     lines: &mut L,
     request: &Request,
 ) -> Answer
-    requires fits { Fits B disk.old.layout (L.count lines.old) }
+    requires fits { Fits B disk.old.layout (L.count (L.kind lines.old)) }
     requires ready { IsReady B (L.made lines.old) disk.old }
     ensures asked { IsAsked B disk.old.layout Ride request.now (L.made lines.old)
         (L.made lines.new) (L.stops lines.old) (L.stops lines.new) result }
     ensures ready { IsReady B (L.made lines.new) disk.new }
     ensures layout { disk.new.layout ≡ disk.old.layout }
-    ensures count { L.count lines.new ≡ L.count lines.old }
+    ensures kind { L.kind lines.new ≡ L.kind lines.old }
 {
     let mut answer = serve(alloc, disk, lines, request);
     for _cut in 0..MOST_CUTS {
@@ -67,13 +67,13 @@ pub(crate) fn ask<const B: usize, L: Lines<B>>(
     on_cut: OnCut,
     request: &Request,
 ) -> Answer
-    requires fits { Fits B disk.old.layout (L.count lines.old) }
+    requires fits { Fits B disk.old.layout (L.count (L.kind lines.old)) }
     requires ready { IsReady B (L.made lines.old) disk.old }
     ensures asked { IsAsked B disk.old.layout on_cut request.now (L.made lines.old)
         (L.made lines.new) (L.stops lines.old) (L.stops lines.new) result }
     ensures ready { IsReady B (L.made lines.new) disk.new }
     ensures layout { disk.new.layout ≡ disk.old.layout }
-    ensures count { L.count lines.new ≡ L.count lines.old }
+    ensures kind { L.kind lines.new ≡ L.kind lines.old }
 {
     match on_cut {
         OnCut::Ride => ride(alloc, disk, lines, request),
@@ -90,7 +90,7 @@ pub(crate) fn failure_of(request: &Request, answer: &Answer) -> Option<Failure>
         (Request::Write { .. }, Answer::Refused(Refusal::Outside)) => Some(Failure::NoSpace),
         (_, Answer::Refused(_)) => Some(Failure::Invalid),
         (_, Answer::Stopped(Stopped::Cut)) => Some(Failure::Shutdown),
-        (_, Answer::Stopped(Stopped::Worn)) => Some(Failure::Io),
+        (_, Answer::Stopped(Stopped::Worn | Stopped::Ended)) => Some(Failure::Io),
         (_, Answer::Stopped(Stopped::Memory)) => Some(Failure::NoMemory),
     }
 }

@@ -154,7 +154,7 @@ pub(crate) fn answer_request<const B: usize, L: Lines<B>, K: Sink>(
     sink: &mut K,
     received: &Received,
 ) -> Result<(), WriteFault>
-    requires fits { Fits B disk.old.layout (L.count lines.old) }
+    requires fits { Fits B disk.old.layout (L.count (L.kind lines.old)) }
     requires ready { IsReady B (L.made lines.old) disk.old }
     ensures answered { IsAnswered B disk.old.layout on_cut received.now.header received.now.request
         (L.made lines.old) (L.made lines.new) (L.stops lines.old) (L.stops lines.new)
@@ -163,7 +163,7 @@ pub(crate) fn answer_request<const B: usize, L: Lines<B>, K: Sink>(
     ensures never_falls { K.faults sink.old ≤ K.faults sink.new }
     ensures ready { IsReady B (L.made lines.new) disk.new }
     ensures layout { disk.new.layout ≡ disk.old.layout }
-    ensures count { L.count lines.new ≡ L.count lines.old }
+    ensures kind { L.kind lines.new ≡ L.kind lines.old }
 {
     let cookie = received.header.cookie;
     match &received.request {

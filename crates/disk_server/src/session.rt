@@ -24,7 +24,7 @@ fn step<const B: usize, L: Lines<B>, S: Source, K: Sink>(
     source: &mut S,
     sink: &mut K,
 ) -> Result<Phase, Ended>
-    requires fits { Fits B disk.old.layout (L.count lines.old) }
+    requires fits { Fits B disk.old.layout (L.count (L.kind lines.old)) }
     requires ready { IsReady B (L.made lines.old) disk.old }
     ensures answers { IfOk result (λ next. Answers B disk.old.layout on_cut phase
         (seen S.left S.taken S.faults K.written K.faults L.made L.stops source.old sink.old
@@ -40,7 +40,7 @@ fn step<const B: usize, L: Lines<B>, S: Source, K: Sink>(
     ensures write_faults { K.faults sink.old ≤ K.faults sink.new }
     ensures ready { IsReady B (L.made lines.new) disk.new }
     ensures layout { disk.new.layout ≡ disk.old.layout }
-    ensures count { L.count lines.new ≡ L.count lines.old }
+    ensures kind { L.kind lines.new ≡ L.kind lines.old }
 {
     match phase {
         Phase::Opening => {
@@ -77,7 +77,7 @@ pub fn serve<const B: usize, L: Lines<B>, S: Source, K: Sink>(
     source: &mut S,
     sink: &mut K,
 ) -> Ended
-    requires fits { Fits B disk.old.layout (L.count lines.old) }
+    requires fits { Fits B disk.old.layout (L.count (L.kind lines.old)) }
     requires ready { IsReady B (L.made lines.old) disk.old }
     ensures session { IsSession B disk.old.layout on_cut
         (seen S.left S.taken S.faults K.written K.faults L.made L.stops source.old sink.old
@@ -86,7 +86,7 @@ pub fn serve<const B: usize, L: Lines<B>, S: Source, K: Sink>(
         lines.new) result }
     ensures ready { IsReady B (L.made lines.new) disk.new }
     ensures layout { disk.new.layout ≡ disk.old.layout }
-    ensures count { L.count lines.new ≡ L.count lines.old }
+    ensures kind { L.kind lines.new ≡ L.kind lines.old }
 {
     let Ok(()) = write_all(sink, &greet()) else {
         return Ended::Unwritten;

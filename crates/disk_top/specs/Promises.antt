@@ -5,7 +5,7 @@ use Rattle.command_line.specs.{declared.job.LineSize.LineSize, declared.job.Line
 use Rattle.command_line.specs.declared.job.Refusal.TheVariants as refusal
 use Rattle.program_calls.specs.Calls.{Lent, SinkChange}
 use Rattle.disk_server.specs.declared.phase.Ended.{Ended}
-use Rattle.disk_words.specs.{Jobs.DiskAsked, declared.job.DiskPlan.DiskPlan}
+use Rattle.disk_words.specs.Jobs.DiskAsked
 use Rattle.disk_top.specs.{Outcomes.{IsStatusOf, fault_in}, Serving.{HasServed, Shown}, declared.outcome.Outcome.Outcome}
 use Rattle.disk_top.specs.{declared.outcome.Outcome.TheVariants.{Served, Usage, NoMemory}, declared.program.Remains.Remains, declared.program.Remains.TheVariants.{Narrow, Wide}}
 
@@ -18,14 +18,14 @@ pub record Call : Type 0 where
 
 module _ (call : Call) where
   -- a client was served on lines of the size that was asked for
-  abbrev pub ServesOn : DiskPlan → Ended → LineSize → Remains → Type 0
-  ServesOn plan ended Bytes64 (Narrow last) = HasServed seeded_state plan call.was call.now last ended
-  ServesOn plan ended Bytes128 (Wide last) = HasServed seeded_state plan call.was call.now last ended
-  ServesOn plan ended _ _ = ⊥
+  abbrev pub ServesOn : DiskAsked → Ended → LineSize → Remains → Type 0
+  ServesOn job ended Bytes64 (Narrow last) = HasServed seeded_state job call.was call.now last ended
+  ServesOn job ended Bytes128 (Wide last) = HasServed seeded_state job call.was call.now last ended
+  ServesOn job ended _ _ = ⊥
 
   abbrev pub Serves : Result DiskAsked Refusal → Ended → Type 0
   Serves (Err e) ended = ⊥
-  Serves (Ok asked) ended = ServesOn asked.plan ended asked.plan.line call.remains
+  Serves (Ok job) ended = ServesOn job ended job.plan.line call.remains
 
   -- what became of it; where no client was served, nothing was read and nothing written
   abbrev pub Becomes : Outcome → Type 0

@@ -33,7 +33,7 @@ fn serve_narrow<S: Source, K: Sink>(
 ) -> Result<(Ended, NarrowLines), AllocError>
     requires plan { IsDiskPlan job.plan }
     requires line { line_bytes job.plan.line ≡ 64 }
-    ensures served { IfOk result (λ served. HasServed seeded_state job.plan
+    ensures served { IfOk result (λ served. HasServed seeded_state (asked_by job)
         (shown S.left S.taken S.faults K.written K.faults source.old sink.old)
         (shown S.left S.taken S.faults K.written K.faults source.new sink.new)
         served.1 served.0) }
@@ -54,7 +54,7 @@ fn serve_wide<S: Source, K: Sink>(
 ) -> Result<(Ended, WideLines), AllocError>
     requires plan { IsDiskPlan job.plan }
     requires line { line_bytes job.plan.line ≡ 128 }
-    ensures served { IfOk result (λ served. HasServed seeded_state job.plan
+    ensures served { IfOk result (λ served. HasServed seeded_state (asked_by job)
         (shown S.left S.taken S.faults K.written K.faults source.old sink.old)
         (shown S.left S.taken S.faults K.written K.faults source.new sink.new)
         served.1 served.0) }

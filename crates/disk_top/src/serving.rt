@@ -1,6 +1,7 @@
 // A client of a disk on a new module.
-ghost use Rattle.std.specs.Prelude.{◌≡◌, ◌≤◌, IfOk, OnErr};
-ghost use Rattle.disk_words.specs.Jobs.{IsDiskPlan};
+ghost use Rattle.std.specs.Prelude.{◌≡◌, ℕ, ◌≤◌, List, IfOk, OnErr};
+ghost use Rattle.pcm_cells.specs.Seeded.{seeded_state};
+ghost use Rattle.disk_words.specs.Jobs.{IsDiskPlan, asked_by};
 ghost use Rattle.disk_words.specs.Layouts.{line_bytes};
 ghost use Rattle.disk_top.specs.Serving.{HasServed, IsNewOn, shown};
 
@@ -24,7 +25,7 @@ pub type WideLines = PcmLines<128, 16, 8, MemArray<128, 16>>;
 /// A new module with lines of 64 bytes, whose power is cut when the words say so.
 pub(crate) fn narrow(alloc: Global, job: DiskJob) -> Result<NarrowLines, AllocError>
     requires plan { IsDiskPlan job.plan }
-    ensures new { IfOk result (λ lines. IsNewOn job.plan lines) }
+    ensures new { IfOk result (λ lines. IsNewOn seeded_state (asked_by job) lines) }
 {
     let plan = job.plan;
     let array = MemArray::without_energy();
@@ -34,7 +35,7 @@ pub(crate) fn narrow(alloc: Global, job: DiskJob) -> Result<NarrowLines, AllocEr
 /// The same with lines of 128 bytes.
 pub(crate) fn wide(alloc: Global, job: DiskJob) -> Result<WideLines, AllocError>
     requires plan { IsDiskPlan job.plan }
-    ensures new { IfOk result (λ lines. IsNewOn job.plan lines) }
+    ensures new { IfOk result (λ lines. IsNewOn seeded_state (asked_by job) lines) }
 {
     let plan = job.plan;
     let array = MemArray::without_energy();
@@ -60,8 +61,17 @@ pub(crate) fn serve<
     requires short { B ≤ 128 }
     requires plan { IsDiskPlan plan }
     requires line { line_bytes plan.line ≡ B }
-    requires new { IsNewOn plan lines.old }
-    ensures served { IfOk result (λ ended. HasServed A.state plan
+    requires new { (cuts : List ℕ) × IsNewOn A.state (record {
+      plan = plan;
+      cuts = cuts;
+    }) lines.old }
+    ensures served { IfOk result (λ ended. (cuts : List ℕ) → IsNewOn A.state (record {
+      plan = plan;
+      cuts = cuts;
+    }) lines.old → HasServed A.state (record {
+      plan = plan;
+      cuts = cuts;
+    })
         (shown S.left S.taken S.faults K.written K.faults source.old sink.old)
         (shown S.left S.taken S.faults K.written K.faults source.new sink.new)
         lines.new ended) }

@@ -1,8 +1,9 @@
-use Rattle.std.proofs.Common.{ℕ, List, [], sym, subst}
+use Rattle.std.proofs.Common.{List, [], sym, subst}
 use Rattle.atomic_sectors.specs.Sectors.{Fits}
+use Rattle.module_shape.specs.Limits.{total_of}
 use Rattle.disk_rules.specs.{Disk.told, declared.Answer.Answer, declared.Request.Request}
 use Rattle.disk_bytes.specs.Serving.{IsServed}
-use Rattle.disk_lines.specs.{Lines.writes_of, Serving.IsDiskByRows}
+use Rattle.disk_lines.specs.{Lines.{Kind, writes_of}, Serving.IsDiskByRows}
 use Rattle.disk_promise.{specs.Keeping.IsDiskKept, proofs.Keeping.{new-served, ok-so}}
 use Rattle.disk_promise.proofs.serve_disk.Goals as goal
 
@@ -11,7 +12,7 @@ returns-clause-kept g c =
     let layout = c.args.disk.now.layout in
     let now = c.serve_disk-served.new.lines in
     let array = g.A.CellArray.state now.array in
-    let fits = subst (λ (count : ℕ). Fits g.row.B layout count) (sym c.serve_disk-served.ensures.count) c.requires.fits in
+    let fits = subst (λ (kind : Kind). Fits g.row.B layout (total_of kind.shape)) (sym c.serve_disk-served.ensures.kind) c.requires.fits in
     let Was : List (Request × Answer) → Type 0 = λ asked. IsServed g.row.B layout asked (writes_of c.args.lines.now.puts) in
     let all = c.args.requests.now in
     ok-so (λ answers. (asked : List (Request × Answer)) → Was asked → IsDiskByRows now.module_ now.heard layout (told asked all answers.items))
@@ -26,7 +27,7 @@ returns-clause-new g c none =
     let layout = c.args.disk.now.layout in
     let now = c.serve_disk-served.new.lines in
     let array = g.A.CellArray.state now.array in
-    let fits = subst (λ (count : ℕ). Fits g.row.B layout count) (sym c.serve_disk-served.ensures.count) c.requires.fits in
+    let fits = subst (λ (kind : Kind). Fits g.row.B layout (total_of kind.shape)) (sym c.serve_disk-served.ensures.kind) c.requires.fits in
     let Was : List (Request × Answer) → Type 0 = λ asked. IsServed g.row.B layout asked (writes_of c.args.lines.now.puts) in
     let all = c.args.requests.now in
     ok-so (λ answers. (asked : List (Request × Answer)) → Was asked → IsDiskByRows now.module_ now.heard layout (told asked all answers.items))

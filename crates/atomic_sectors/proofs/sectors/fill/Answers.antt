@@ -11,7 +11,7 @@ loop-i-init g c = record {
       let old = g.L.Lines.made c.args.lines.now in
       at_start (KeepsOthers g.row.B c.args.first (length c.args.from.now) old) old (keeps_none g.row.B c.args.first (length c.args.from.now) old);
   stops = omega arith;
-  count = refl;
+  kind = refl;
 }
 
 pub returns-in_err-put-clause-moments : goal.returns-in_err-put-clause-moments
@@ -38,5 +38,5 @@ loop-i-preserved g c =
       moments = subst (λ (ws : List Write). AtEachMoment P old ws) (sym made)
           (made_one P old mid w c.loop-i.invariant.moments (keeps_more g.row.B c.args.first (length c.args.from.now) old w mid (omega arith) (omega arith) (at_end P old mid c.loop-i.invariant.moments)));
       stops = omega (arith, c.loop-i.invariant.stops, c.put.ensures.never_falls);
-      count = c.put.ensures.count ∙ c.loop-i.invariant.count;
+      kind = c.put.ensures.kind ∙ c.loop-i.invariant.kind;
     }

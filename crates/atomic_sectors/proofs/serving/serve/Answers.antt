@@ -10,12 +10,12 @@ pub read-requires : goal.read-requires
 read-requires g c =
     let asked = subst (IsAsked g.row.B c.args.layout) c.in-Read.is c.requires.asked in
     let layout = c.in-Ok.ensures.layout in
-    let fits = subst (λ k. Fits g.row.B c.args.layout k) (sym c.opened.ensures.count) c.requires.fits in
+    let fits = subst (λ k. Fits g.row.B c.args.layout k) (sym (ap g.L.Lines.count c.opened.ensures.kind)) c.requires.fits in
     let mapped = subst (λ (ws : List Write). IsMapped g.row.B c.args.layout (stand g.row.B ws) c.in-Ok.sectors.free) (sym c.opened.ensures.made) c.in-Ok.ensures.mapped in
     let sectors : c.in-Ok.sectors.layout.sectors ≡ c.args.layout.sectors = ap (λ (l : Layout). l.sectors) layout in (
       omega arith,
       (
-        subst (λ (l : Layout). Fits g.row.B l (g.L.Lines.count c.opened.new.lines)) (sym layout) fits,
+        subst (λ (l : Layout). Fits g.row.B l (g.L.Lines.count (g.L.Lines.kind c.opened.new.lines))) (sym layout) fits,
         (
           subst (λ (l : Layout). IsMapped g.row.B l (stand g.row.B (g.L.Lines.made c.opened.new.lines)) c.in-Ok.sectors.free) (sym layout) mapped,
           omega (arith, asked, sectors),
@@ -27,7 +27,7 @@ pub write-requires : goal.write-requires
 write-requires g c =
     let asked = subst (IsAsked g.row.B c.args.layout) c.in-Write.is c.requires.asked in
     let layout = c.in-Ok.ensures.layout in
-    let fits = subst (λ k. Fits g.row.B c.args.layout k) (sym c.opened.ensures.count) c.requires.fits in
+    let fits = subst (λ k. Fits g.row.B c.args.layout k) (sym (ap g.L.Lines.count c.opened.ensures.kind)) c.requires.fits in
     let mapped = subst (λ (ws : List Write). IsMapped g.row.B c.args.layout (stand g.row.B ws) c.in-Ok.sectors.free) (sym c.opened.ensures.made) c.in-Ok.ensures.mapped in
     let sectors : c.in-Ok.sectors.layout.sectors ≡ c.args.layout.sectors = ap (λ (l : Layout). l.sectors) layout in
     let block : c.in-Ok.sectors.layout.block ≡ c.args.layout.block = ap (λ (l : Layout). l.block) layout in (
@@ -35,7 +35,7 @@ write-requires g c =
       (
         omega arith,
         (
-          subst (λ (l : Layout). Fits g.row.B l (g.L.Lines.count c.opened.new.lines)) (sym layout) fits,
+          subst (λ (l : Layout). Fits g.row.B l (g.L.Lines.count (g.L.Lines.kind c.opened.new.lines))) (sym layout) fits,
           (
             subst (λ (l : Layout). IsMapped g.row.B l (stand g.row.B (g.L.Lines.made c.opened.new.lines)) c.in-Ok.sectors.free) (sym layout) mapped,
             (omega (arith, asked.0, sectors), c.as_slice.ensures.len ∙ asked.1 ∙ sym block),

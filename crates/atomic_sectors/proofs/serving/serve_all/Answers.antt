@@ -9,7 +9,7 @@ loop-request-init g c = record {
   known = c.requires.whole;
   stops = subst (λ (given : List (Answer g.row.B)). RoseBy (stops_in given) (g.L.Lines.stops c.args.lines.now) (g.L.Lines.stops c.args.lines.now))
       (sym c.new-answers.ensures.items) (rose-none _);
-  count = refl;
+  kind = refl;
   served = λ before have. (before, subst (λ (given : List (Answer g.row.B)). ServeAll g.row.B c.args.layout.block [] given before before) (sym c.new-answers.ensures.items) refl, have);
 }
 
@@ -28,7 +28,7 @@ loop-request-preserved g c =
       known = c.serve-answer.ensures.known;
       stops = subst (λ k. RoseBy k (g.L.Lines.stops c.args.lines.now) (g.L.Lines.stops c.serve-answer.new.lines)) (sym (ap stops_in items ∙ stops-more c.loop-request.answers.items a))
           (rose-both _ _ _ _ _ c.loop-request.invariant.stops c.serve-answer.ensures.cause);
-      count = c.serve-answer.ensures.count ∙ c.loop-request.invariant.count;
+      kind = c.serve-answer.ensures.kind ∙ c.loop-request.invariant.kind;
       served = λ before have.
           let so_far = c.loop-request.invariant.served before have in
           let one = c.serve-answer.ensures.serves so_far.0 so_far.2 in

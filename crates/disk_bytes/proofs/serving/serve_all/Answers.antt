@@ -32,7 +32,7 @@ loop-request-preserved g c =
       layout = c.serve-answer.ensures.layout ∙ now.layout;
       stops = subst (λ k. RoseBy k (g.L.Lines.stops c.args.lines.now) (g.L.Lines.stops c.serve-answer.new.lines)) (sym (ap stops_in items ∙ stops-more answers a))
           (rose-both _ _ _ _ _ now.stops c.serve-answer.ensures.cause);
-      count = c.serve-answer.ensures.count ∙ now.count;
+      kind = c.serve-answer.ensures.kind ∙ now.kind;
     }
 
 pub returns-clause-served : goal.returns-clause-served

@@ -12,5 +12,5 @@ invariant-loop-request g l = record {
   ready : IsReady g.row.B (g.L.Lines.made l.lines) l.disk;
   layout : l.disk.layout ≡ l.fn.disk.layout;
   stops : RoseBy (stops_in l.answers.items) (g.L.Lines.stops l.fn.lines) (g.L.Lines.stops l.lines);
-  count : g.L.Lines.count l.lines ≡ g.L.Lines.count l.fn.lines;
+  kind : g.L.Lines.kind l.lines ≡ g.L.Lines.kind l.fn.lines;
 }

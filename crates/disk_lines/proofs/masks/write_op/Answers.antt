@@ -1,4 +1,4 @@
-use Rattle.std.proofs.Common.{ℕ, [], ◌∙◌, replicate, sym, true}
+use Rattle.std.proofs.Common.{ℕ, [], ◌∙◌, refl, replicate, sym, true}
 use Rattle.std.proofs.lemmas.List.{length-replicate}
 use Rattle.masked_bytes.{specs.Masked.laid, proofs.Layering.length-laid}
 use Rattle.disk_lines.proofs.{Masking.{lays-all, lays-some, zero-laid}, Reading.refused-write}
@@ -9,6 +9,7 @@ returns-then-has_all-clause-lawful g c = λ lines there. (there, c.told-bytes)
 
 pub returns-then-has_all-clause-writes : goal.returns-then-has_all-clause-writes
 returns-then-has_all-clause-writes g c = record {
+  no_cut = refl;
   lays = lays-all c.args.place c.args.bytes.now c.args.given.now c.told-bytes c.told-given (sym c.has_all.ensures ∙ c.if-has_all.true);
   refused = λ tick outcome others is not. refused-write tick c.args.place c.args.bytes.now (replicate g.row.B true) [] outcome is not;
 }
@@ -32,6 +33,7 @@ returns-clause-writes g c =
     let zeros = replicate g.row.B 0 in
     let long = length-replicate {A = ℕ} g.row.B 0 in
     rw c.fill_under.ensures (record {
+      no_cut = refl;
       lays = lays-some c.args.place c.args.bytes.now c.args.given.now c.told-bytes c.told-given zeros long;
       refused = λ tick outcome others is not. refused-write tick c.args.place (laid c.args.bytes.now c.args.given.now zeros) c.args.given.now [] outcome is not;
     })

@@ -1,9 +1,9 @@
-use Rattle.std.proofs.Common.{ℕ, List, [], sym, subst}
+use Rattle.std.proofs.Common.{List, [], sym, subst}
 use Rattle.atomic_sectors.specs.{Lines.stand, Sectors.Fits}
 use Rattle.disk_rules.specs.{declared.Answer.Answer, declared.Request.Request}
 use Rattle.disk_bytes.specs.Serving.{IsServed}
 use Rattle.module_shape.specs.Limits.{total_of}
-use Rattle.disk_lines.specs.{Lines.writes_of, Serving.bytes_by_rows}
+use Rattle.disk_lines.specs.{Lines.{Kind, writes_of}, Serving.bytes_by_rows}
 use Rattle.disk_server.specs.Messages.{asked}
 use Rattle.disk_promise.proofs.Keeping.{new-served}
 use Rattle.disk_promise.proofs.clients.serve_client.Goals as goal
@@ -14,7 +14,7 @@ returns-clause-session g c =
     let now = c.serve-ended.new.lines in
     let array = g.A.CellArray.state now.array in
     let session = c.serve-ended.ensures.session in
-    let fits = subst (λ (count : ℕ). Fits g.row.B layout count) (sym c.serve-ended.ensures.count) c.requires.fits in
+    let fits = subst (λ (kind : Kind). Fits g.row.B layout (total_of kind.shape)) (sym c.serve-ended.ensures.kind) c.requires.fits in
     let kept = λ (asked : List (Request × Answer)) (served : IsServed g.row.B layout asked (writes_of now.puts)).
     c.no_moment_loses_a_disk.ensures g.row.B g.row.M g.row.E now.module_ array now.heard layout asked c.stands.ensures.shape fits c.stands.ensures.has
     (record {

@@ -18,7 +18,7 @@ loop-cut-init g c = record {
   asked = asked_once g.row.B c.args.disk.now.layout c.args.request.now _ _ _ _ c.serve-answer.result c.serve-answer.ensures.served c.serve-answer.ensures.cause;
   ready = c.serve-answer.ensures.ready;
   layout = c.serve-answer.ensures.layout;
-  count = c.serve-answer.ensures.count;
+  kind = c.serve-answer.ensures.kind;
 }
 
 pub loop-cut-preserved : goal.loop-cut-preserved
@@ -35,7 +35,7 @@ loop-cut-preserved g c =
           c.serve-answer-in-loop-cut.ensures.served) c.serve-answer-in-loop-cut.ensures.cause;
       ready = c.serve-answer-in-loop-cut.ensures.ready;
       layout = c.serve-answer-in-loop-cut.ensures.layout ∙ now.layout;
-      count = c.serve-answer-in-loop-cut.ensures.count ∙ now.count;
+      kind = c.serve-answer-in-loop-cut.ensures.kind ∙ now.kind;
     }
 
 pub returns-clause-asked : goal.returns-clause-asked

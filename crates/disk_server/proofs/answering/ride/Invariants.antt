@@ -8,5 +8,5 @@ invariant-loop-cut g l = record {
   asked : Asked g.row.B l.fn.disk.layout l.request (g.L.Lines.made l.fn.lines) (g.L.Lines.made l.lines) (g.L.Lines.stops l.fn.lines) (g.L.Lines.stops l.lines) l._cut l.answer;
   ready : IsReady g.row.B (g.L.Lines.made l.lines) l.disk;
   layout : l.disk.layout ≡ l.fn.disk.layout;
-  count : g.L.Lines.count l.lines ≡ g.L.Lines.count l.fn.lines;
+  kind : g.L.Lines.kind l.lines ≡ g.L.Lines.kind l.fn.lines;
 }

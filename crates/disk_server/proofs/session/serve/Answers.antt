@@ -22,7 +22,7 @@ loop-message-init g c = record {
   );
   ready = c.requires.ready;
   layout = refl;
-  count = refl;
+  kind = refl;
 }
 
 pub returns-in-Err-clause-session : goal.returns-in-Err-clause-session
@@ -40,5 +40,5 @@ loop-message-preserved g c =
       so_far = (more.0 ∷ so_far.0, more.1, more.2, omega (arith, so_far.3));
       ready = c.step.ensures.ready;
       layout = c.step.ensures.layout ∙ c.loop-message.invariant.layout;
-      count = c.step.ensures.count ∙ c.loop-message.invariant.count;
+      kind = c.step.ensures.kind ∙ c.loop-message.invariant.kind;
     }

@@ -12,5 +12,5 @@ invariant-loop-message g l = record {
       × (l.phase ≡ phase_of messages) × (length messages ≡ l._message);
   ready : IsReady g.row.B (g.L.Lines.made l.lines) l.disk;
   layout : l.disk.layout ≡ l.fn.disk.layout;
-  count : g.L.Lines.count l.lines ≡ g.L.Lines.count l.fn.lines;
+  kind : g.L.Lines.kind l.lines ≡ g.L.Lines.kind l.fn.lines;
 }

@@ -18,7 +18,7 @@ loop-sector-preserved g c =
       used_few = omega (arith, few, block, exists);
       made = c.find_block.ensures.made ∙ c.loop-sector.invariant.made;
       stops = omega (arith, c.loop-sector.invariant.stops, c.find_block.ensures.never_falls);
-      count = c.find_block.ensures.count ∙ c.loop-sector.invariant.count;
+      kind = c.find_block.ensures.kind ∙ c.loop-sector.invariant.kind;
     }
 
 pub overflow_sub-result : goal.overflow_sub-result

@@ -10,5 +10,5 @@ invariant-loop-sector g l = record {
   used_few : l.used ≤ 2 ^ 26 * l.sector;
   made : g.L.Lines.made l.lines ≡ g.L.Lines.made l.fn.lines;
   stops : g.L.Lines.stops l.fn.lines ≤ g.L.Lines.stops l.lines;
-  count : g.L.Lines.count l.lines ≡ g.L.Lines.count l.fn.lines;
+  kind : g.L.Lines.kind l.lines ≡ g.L.Lines.kind l.fn.lines;
 }

@@ -1,4 +1,4 @@
-use Rattle.std.proofs.Common.{◌≤◌, sym, subst, arith}
+use Rattle.std.proofs.Common.{◌≤◌, ap, sym, subst, arith}
 use Rattle.atomic_sectors.proofs.{Fitting.block_fits, Reading.reads_sector}
 use Rattle.atomic_sectors.proofs.sectors.Sectors.read.Goals as goal
 
@@ -14,7 +14,7 @@ read_lines-requires g c =
     let exists = subst (λ b. b ≤ s.layout.sectors) (sym c.in_ok-block.ensures.block) (c.requires.mapped.exists c.args.sector c.requires.exists) in
     let within = block_fits g.row.B s.layout _ c.requires.fits c.in_ok-block.block exists in (
       omega (arith, c.requires.fits.short),
-      (omega (arith, within, c.requires.whole, c.find_block.ensures.count), omega (arith, c.requires.fits.few, c.find_block.ensures.count)),
+      (omega (arith, within, c.requires.whole, ap g.L.Lines.count c.find_block.ensures.kind), omega (arith, c.requires.fits.few, ap g.L.Lines.count c.find_block.ensures.kind)),
     )
 
 pub returns-clause-read : goal.returns-clause-read

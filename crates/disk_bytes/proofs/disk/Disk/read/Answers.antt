@@ -28,5 +28,5 @@ loop-done-preserved g c =
       layout = c.read_sector.ensures.layout ∙ now.layout;
       made = c.read_sector.ensures.made ∙ now.made;
       stops = omega (arith, now.stops, c.read_sector.ensures.never_falls);
-      count = c.read_sector.ensures.count ∙ now.count;
+      kind = c.read_sector.ensures.kind ∙ now.kind;
     }

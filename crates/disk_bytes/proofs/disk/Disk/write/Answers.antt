@@ -18,7 +18,7 @@ loop-done-init g c =
       ready = c.requires.ready;
       layout = refl;
       stops = omega arith;
-      count = refl;
+      kind = refl;
     }
 
 pub returns-in_err-done-clause-moments : goal.returns-in_err-done-clause-moments
@@ -64,7 +64,7 @@ loop-done-preserved g c =
       ready = c.write_piece.ensures.ready;
       layout = c.write_piece.ensures.layout ∙ now.layout;
       stops = omega (arith, now.stops, c.write_piece.ensures.never_falls);
-      count = c.write_piece.ensures.count ∙ now.count;
+      kind = c.write_piece.ensures.kind ∙ now.kind;
     }
 
 pub returns-clause-written : goal.returns-clause-written

@@ -15,7 +15,7 @@ invariant-loop-done g l = record {
   ready : IsReady g.row.B (g.L.Lines.made l.lines) l.self;
   layout : l.self.layout ≡ l.fn.self.layout;
   stops : g.L.Lines.stops l.fn.lines ≤ g.L.Lines.stops l.lines;
-  count : g.L.Lines.count l.lines ≡ g.L.Lines.count l.fn.lines;
+  kind : g.L.Lines.kind l.lines ≡ g.L.Lines.kind l.fn.lines;
 }
 
 abbrev pub decreases-loop-done : goal.decreases-loop-done

@@ -15,11 +15,11 @@ write-requires g c =
     let layout = c.in_ok-sectors.ensures.layout in
     let sectors : c.in_ok-sectors.sectors.layout.sectors ≡ s.layout.sectors = ap (λ (l : Layout). l.sectors) layout in
     let block : c.in_ok-sectors.sectors.layout.block ≡ s.layout.block = ap (λ (l : Layout). l.block) layout in
-    let fits = subst (λ k. Fits g.row.B s.layout k) (sym c.opened.ensures.count) c.requires.fits in
+    let fits = subst (λ k. Fits g.row.B s.layout k) (sym (ap g.L.Lines.count c.opened.ensures.kind)) c.requires.fits in
     let mapped = subst (λ (ws : List Write). IsMapped g.row.B s.layout (stand g.row.B ws) c.in_ok-sectors.sectors.free) (sym c.opened.ensures.made) c.in_ok-sectors.ensures.mapped in (
       omega (arith, c.requires.fits.short),
       (
-        subst (λ (l : Layout). Fits g.row.B l (g.L.Lines.count c.opened.new.lines)) (sym layout) fits,
+        subst (λ (l : Layout). Fits g.row.B l (g.L.Lines.count (g.L.Lines.kind c.opened.new.lines))) (sym layout) fits,
         (
           subst (λ (l : Layout). IsMapped g.row.B l (stand g.row.B (g.L.Lines.made c.opened.new.lines)) c.in_ok-sectors.sectors.free) (sym layout) mapped,
           (omega (arith, c.requires.exists, sectors), ap length c.as_slice.ensures.value ∙ c.requires.ready.room ∙ sym block),

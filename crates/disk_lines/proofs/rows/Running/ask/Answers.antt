@@ -1,9 +1,10 @@
-use Rattle.std.proofs.Common.{◌≡◌, ◌∙◌, ◌<◌, ap, sym, subst, length, arith}
+use Rattle.std.proofs.Common.{◌≡◌, ◌∙◌, ◌<◌, ap, refl, sym, subst, length, arith}
 use Rattle.std.specs.Prelude.{IfSome, Option}
 use Rattle.module_shape.specs.{Limits.total_of, declared.raw.RawShape.RawShape}
 use Rattle.result_rows.specs.Outcomes.{bytes_of}
 use Rattle.row_rules.specs.Rows.{newest}
-use Rattle.disk_lines.{specs.Asking.rows_heard, specs.Hearing.events_in, proofs.Reading.read-answers}
+use Rattle.disk_lines.{specs.Asking.rows_heard, specs.Hearing.events_in, proofs.Staying.kind-row, proofs.Reading.read-answers}
+use Rattle.trace_reader.specs.declared.event.EventOp.TheVariants.{Read}
 use Rattle.disk_lines.proofs.rows.Running.ask.Goals as goal
 
 pub returns-clause-more : goal.returns-clause-more
@@ -25,3 +26,23 @@ returns-clause-bytes g c =
     (read-answers c.no_answer_is_wrong_meanwhile.ensures after.module (g.A.CellArray.state after.array) after.watch.heard c.wait.ensures.has c.shape.ensures.in_range
     c.in_ok-tick.tick place (events_in ready.watch.heard) events after.watch.rows (omega (arith, c.last.ensures.counted, ap length events)) after.watch.last c.last.ensures.newest
     (newest (rows_heard c.args.self.now.watch.heard) place) same)
+
+pub returns-in_err-wait-clause-kind : goal.returns-in_err-wait-clause-kind
+returns-in_err-wait-clause-kind g c =
+    let old = c.next_tick.new.self in
+    let now = c.hand_in.new.self in
+    let state = g.A.CellArray.state in
+    c.wait.ensures.kind
+    ∙ kind-row old.module now.module (state old.array) (state now.array) old.watch now.watch old.cuts now.cuts c.hand_in.ensures.cuts c.hand_in.ensures.wear
+    (record { tick = c.in_ok-tick.tick; op = Read c.args.place }) c.hand_in.ensures.takes refl c.in_ok-tick.ensures.quiet
+    ∙ c.next_tick.ensures.kind
+
+pub returns-clause-kind : goal.returns-clause-kind
+returns-clause-kind g c =
+    let old = c.next_tick.new.self in
+    let now = c.hand_in.new.self in
+    let state = g.A.CellArray.state in
+    c.wait.ensures.kind
+    ∙ kind-row old.module now.module (state old.array) (state now.array) old.watch now.watch old.cuts now.cuts c.hand_in.ensures.cuts c.hand_in.ensures.wear
+    (record { tick = c.in_ok-tick.tick; op = Read c.args.place }) c.hand_in.ensures.takes refl c.in_ok-tick.ensures.quiet
+    ∙ c.next_tick.ensures.kind

@@ -1,7 +1,7 @@
-use Rattle.std.proofs.Common.{rules, ◌≡◌, ◌∙◌, ◌+◌, ◌<◌, ap, sym, subst, inl, length, arith}
+use Rattle.std.proofs.Common.{rules, ◌≡◌, ◌∙◌, ◌+◌, ◌<◌, ap, sym, subst, length, arith}
 use Rattle.trace_reader.specs.Events.{IsOpFor}
 use Rattle.module_shape.specs.{Limits.total_of, declared.raw.RawShape.RawShape}
-use Rattle.disk_lines.{specs.Asking.SameLines, specs.Hearing.{events_in, table_in}, proofs.Asking.{later-still, same-still}, proofs.Disks.on-err}
+use Rattle.disk_lines.{specs.Asking.SameLines, specs.Hearing.{events_in, table_in}, proofs.Asking.{later-still, same-still}, proofs.Disks.on-err, proofs.Staying.kind-row}
 use Rattle.disk_lines.proofs.{Making.{lays-accepted, lays-none, same-refused}, Reading.last-served}
 use Rattle.disk_lines.proofs.rows.Running.write.Goals as goal
 use Rattle.bank_laws.specs.Outcomes.{ended}
@@ -62,4 +62,22 @@ returns-else-is_accepted-clause-cause g c =
     last-served c.no_answer_is_wrong_meanwhile.ensures after.module (g.A.CellArray.state after.array) after.watch.heard c.hand_in.ensures.has c.shape.ensures.in_range
     (record { tick = c.in_ok-tick.tick; op = c.write_op.result }) (events_in ready.watch.heard) events after.watch.rows number after.watch.last c.last.ensures.newest in
     let one = c.write_op.ensures.writes.refused c.in_ok-tick.tick after.watch.last (rows_by (table_in after.watch.heard) (asked_for (events_in ready.watch.heard))) served not in
-    inl (omega (arith, c.hand_in.ensures.takes.refused, one, c.next_tick.ensures.later.refused, c.make_room.ensures.later.refused))
+    omega (arith, c.hand_in.ensures.takes.refused, one, c.next_tick.ensures.later.refused, c.make_room.ensures.later.refused)
+
+pub returns-then-is_accepted-clause-kind : goal.returns-then-is_accepted-clause-kind
+returns-then-is_accepted-clause-kind g c =
+    let ready = c.next_tick.new.self in
+    let now = c.hand_in.new.self in
+    let state = g.A.CellArray.state in
+    kind-row ready.module now.module (state ready.array) (state now.array) ready.watch now.watch ready.cuts now.cuts c.hand_in.ensures.cuts c.hand_in.ensures.wear
+    (record { tick = c.in_ok-tick.tick; op = c.write_op.result }) c.hand_in.ensures.takes c.write_op.ensures.writes.no_cut c.in_ok-tick.ensures.quiet
+    ∙ c.next_tick.ensures.kind ∙ c.make_room.ensures.kind
+
+pub returns-else-is_accepted-clause-kind : goal.returns-else-is_accepted-clause-kind
+returns-else-is_accepted-clause-kind g c =
+    let ready = c.next_tick.new.self in
+    let now = c.hand_in.new.self in
+    let state = g.A.CellArray.state in
+    kind-row ready.module now.module (state ready.array) (state now.array) ready.watch now.watch ready.cuts now.cuts c.hand_in.ensures.cuts c.hand_in.ensures.wear
+    (record { tick = c.in_ok-tick.tick; op = c.write_op.result }) c.hand_in.ensures.takes c.write_op.ensures.writes.no_cut c.in_ok-tick.ensures.quiet
+    ∙ c.next_tick.ensures.kind ∙ c.make_room.ensures.kind
