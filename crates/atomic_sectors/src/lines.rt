@@ -16,11 +16,12 @@ pub enum Stopped {
 /// made: so what a cut leaves at some moment is what stood then.
 pub trait Lines<const B: usize> {
     ghost use Rattle.std.specs.Prelude.{ℕ, List};
-    ghost use Rattle.atomic_sectors.specs.Lines.{Write, stand};
+    ghost use Rattle.atomic_sectors.specs.Lines.{Write, stand, whole_write};
     ghost use Rattle.atomic_sectors.specs.Moments.{IsMadeOrNot};
 
     // What lines these are: no call changes it.
     ghost Kind: { Type 0 };
+
     ghost kind: { Self → Self.Kind };
 
     // How many lines those of a kind are.
@@ -50,6 +51,16 @@ pub trait Lines<const B: usize> {
           bytes = bytes.now;
           given = given.now;
         }) (made self.old) (made self.new)) }
+        ensures cause { OnErr result (Rose (stops self.old) (stops self.new)) }
+        ensures never_falls { stops self.old ≤ stops self.new }
+        ensures kind { kind self.new ≡ kind self.old };
+
+    /// Writes a whole line. Where it is stopped, the write may have been made.
+    fn put_all(&mut self, line: u32, bytes: &[u8; B]) -> Result<(), Stopped>
+        requires exists { line < count (kind self.old) }
+        ensures made { OnOk result (made self.new ≡ whole_write B line bytes.now ∷ made self.old) }
+        ensures stopped { OnErr result (IsMadeOrNot (whole_write B line bytes.now) (made self.old)
+            (made self.new)) }
         ensures cause { OnErr result (Rose (stops self.old) (stops self.new)) }
         ensures never_falls { stops self.old ≤ stops self.new }
         ensures kind { kind self.new ≡ kind self.old };

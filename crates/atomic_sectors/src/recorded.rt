@@ -68,6 +68,10 @@ impl<const B: usize> Lines<B> for Recorded<B> {
         Ok(())
     }
 
+    fn put_all(&mut self, line: u32, bytes: &[u8; B]) -> Result<(), Stopped> {
+        self.put(line, bytes, &[true; B])
+    }
+
     fn get(&mut self, line: u32) -> Result<[u8; B], Stopped> {
         let mut bytes = [0; B];
         for put in &self.puts {

@@ -60,9 +60,8 @@ fn fill<const B: usize, L: Lines<B>>(
     ensures never_falls { L.stops lines.old ≤ L.stops lines.new }
     ensures kind { L.kind lines.new ≡ L.kind lines.old }
 {
-    let all = [true; B];
     for i in 0..from.len() {
-        lines.put(first + i as u32, of_line(&from[i]), &all)?;
+        lines.put_all(first + i as u32, of_line(&from[i]))?;
     }
     Ok(())
 }

@@ -141,6 +141,19 @@ impl<const B: usize, const M: usize, const E: usize, A: CellArray<B, M> + Drop> 
         Ok(())
     }
 
+    fn put_all(&mut self, line: u32, bytes: &[u8; B]) -> Result<(), Stopped> {
+        let place = self.places.place(line);
+        let bank = self.places.bank(line);
+        self.running.write_all(place, bank, bytes)?;
+        let put = Put {
+            line,
+            bytes: *bytes,
+            given: [true; B],
+        };
+        self.puts = self.puts.and(&put);
+        Ok(())
+    }
+
     fn get(&mut self, line: u32) -> Result<[u8; B], Stopped> {
         let place = self.places.place(line);
         let bank = self.places.bank(line);

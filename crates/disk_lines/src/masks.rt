@@ -1,6 +1,6 @@
 // The row that writes some bytes of a line, and what its outcome says.
 ghost use Rattle.std.specs.Prelude.{◌≡◌, ℕ, ◌<◌, ◌≤◌, IsTrue};
-ghost use Rattle.masked_bytes.specs.Masked.{gives_some};
+ghost use Rattle.masked_bytes.specs.Masked.{all_given, gives_some};
 ghost use Rattle.trace_reader.specs.Events.{IsOpFor};
 ghost use Rattle.result_rows.specs.Outcomes.{bytes_of};
 ghost use Rattle.row_rules.specs.Answers.{accepts};
@@ -26,6 +26,15 @@ pub(crate) fn write_op<const B: usize>(place: u32, bytes: &[u8; B], given: &[boo
     let zeros = [0; B];
     fill_under(&mut filled, given, &zeros);
     EventOp::Mask(place, filled, *given)
+}
+
+/// The operation that writes a whole line.
+pub(crate) fn whole_op<const B: usize>(place: u32, bytes: &[u8; B]) -> EventOp<B>
+    requires short { B ≤ 128 }
+    ensures lawful { (lines : ℕ) → place < lines → IsOpFor lines result }
+    ensures writes { IsWriteOf place bytes.now (all_given B) result }
+{
+    EventOp::Write(place, *bytes)
 }
 
 /// Whether a write with this outcome, of which maybe nothing is known yet, is accepted.

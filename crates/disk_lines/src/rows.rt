@@ -1,18 +1,19 @@
 // A module over its array as rows come.
 ghost use Rattle.std.specs.Prelude.{◌≡◌, ◌∷◌, ◌<◌, ◌≤◌, length, IfOk, IfErr, OnOk, OnErr, IfSome, false};
 ghost use Rattle.ecp_line.specs.Layout.{IsLayout};
-ghost use Rattle.trace_reader.specs.Events.{IsEventFor};
+ghost use Rattle.masked_bytes.specs.Masked.{all_given};
+ghost use Rattle.trace_reader.specs.Events.{IsEventFor, IsOpFor};
 ghost use Rattle.trace_reader.specs.Rows.{latest_tick};
 ghost use Rattle.row_rules.specs.Rows.{newest};
 ghost use Rattle.module_shape.specs.Limits.{total_of};
-ghost use Rattle.disk_lines.specs.Asking.{HasCause, HasHeard, IsLater, LaysOver, Passes, SameLines, TakesRow, is_full, rows_heard, most_rows};
+ghost use Rattle.disk_lines.specs.Asking.{HasCause, HasHeard, IsLater, IsWriteOf, LaysOver, Passes, SameLines, TakesRow, is_full, rows_heard, most_rows};
 ghost use Rattle.pcm_module.specs.State.{bank_at};
 ghost use Rattle.disk_lines.specs.Cutting.{come_from, left_of, left_behind};
 ghost use Rattle.disk_lines.specs.Hearing.{events_in};
 ghost use Rattle.disk_lines.specs.Lines.{kind_at};
 
 use crate::cuts::Cuts;
-use crate::masks::{answer, is_accepted, is_open, write_op};
+use crate::masks::{answer, is_accepted, is_open, whole_op, write_op};
 use crate::watch::Watch;
 use atomic_sectors::Stopped;
 use bank_timing::clocked::Timed;
@@ -344,13 +345,66 @@ impl<const B: usize, const M: usize, const E: usize, A: CellArray<B, M> + Drop> 
         if !has_some(given) {
             return Ok(());
         }
+        let op = write_op(place, bytes, given);
+        self.write_by(place, bank, bytes, given, op)
+    }
+
+    /// Writes a whole line of the module; its bank is this one.
+    pub(crate) fn write_all(
+        &mut self,
+        place: u32,
+        bank: u32,
+        bytes: &[u8; B],
+    ) -> Result<(), Stopped>
+        requires layout { IsLayout B M E }
+        requires within { place < total_of self.old.module.shape }
+        requires exists { bank < self.old.module.shape.banks }
+        requires has { HasHeard self.old.module (A.state self.old.array) self.old.watch.heard }
+        ensures has { HasHeard self.new.module (A.state self.new.array) self.new.watch.heard }
+        ensures later { IsLater self.old.module self.new.module self.old.watch.heard self.new.watch.heard }
+        ensures kind { kind_at self.new.module (A.state self.new.array) self.new.watch.heard self.new.cuts
+            ≡ kind_at self.old.module (A.state self.old.array) self.old.watch.heard self.old.cuts }
+        ensures lays { OnOk result (LaysOver self.old.module self.new.module place bytes.now (all_given B)
+            self.old.watch.heard self.new.watch.heard) }
+        ensures same { OnErr result (SameLines self.old.module self.new.module self.old.watch.heard
+            self.new.watch.heard) }
+        ensures cause { IfErr result (λ why. HasCause why self.new.module.tick self.old.watch.heard
+            self.new.watch.heard) }
+    {
+        let all = [true; B];
+        let op = whole_op(place, bytes);
+        self.write_by(place, bank, bytes, &all, op)
+    }
+
+    // Writes those bytes of a line of the module that are given, by an operation that does.
+    fn write_by(
+        &mut self,
+        place: u32,
+        bank: u32,
+        bytes: &[u8; B],
+        given: &[bool; B],
+        op: EventOp<B>,
+    ) -> Result<(), Stopped>
+        requires layout { IsLayout B M E }
+        requires exists { bank < self.old.module.shape.banks }
+        requires has { HasHeard self.old.module (A.state self.old.array) self.old.watch.heard }
+        requires lawful { IsOpFor (total_of self.old.module.shape) op }
+        requires writes { IsWriteOf place bytes.now given.now op }
+        ensures has { HasHeard self.new.module (A.state self.new.array) self.new.watch.heard }
+        ensures later { IsLater self.old.module self.new.module self.old.watch.heard self.new.watch.heard }
+        ensures kind { kind_at self.new.module (A.state self.new.array) self.new.watch.heard self.new.cuts
+            ≡ kind_at self.old.module (A.state self.old.array) self.old.watch.heard self.old.cuts }
+        ensures lays { OnOk result (LaysOver self.old.module self.new.module place bytes.now given.now
+            self.old.watch.heard self.new.watch.heard) }
+        ensures same { OnErr result (SameLines self.old.module self.new.module self.old.watch.heard
+            self.new.watch.heard) }
+        ensures cause { IfErr result (λ why. HasCause why self.new.module.tick self.old.watch.heard
+            self.new.watch.heard) }
+    {
         no_answer_is_wrong_meanwhile();
         self.make_room(bank)?;
         let tick = self.next_tick()?;
-        let event = Event {
-            tick,
-            op: write_op(place, bytes, given),
-        };
+        let event = Event { tick, op };
         self.hand_in(&event);
         let _ = self.module.shape();
         if is_accepted(self.watch.last()) {
