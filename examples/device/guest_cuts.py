@@ -1,6 +1,6 @@
 #!/usr/bin/python3
-"""A machine whose only disk is a module: Linux in qemu, SQLite on ext4 on /dev/vda; the power is cut, the machine killed, booted again and
-checked.
+"""A machine whose only disk is a module: Linux in qemu, SQLite on ext4 on /dev/vda; the power is cut (of a relay: also as it boots), the machine killed,
+booted again and checked.
 
     guest_cuts.py PCM [--cycles N] [--seed X] [--mode delete|wal] [--sync full|extra] [--most-ticks N] [KEY=VALUE ..]
 
@@ -18,7 +18,7 @@ import subprocess
 import sys
 import time
 
-from servers import Server, asking_of_cuts, need, run
+from servers import Server, asking_of_cuts, fails, need, run
 
 INIT = """#!/bin/busybox sh
 /bin/busybox --install -s /bin
@@ -101,9 +101,7 @@ def follow(qemu, last, when_ready):
                 break
         elif word[0] == "COMMITTED":
             last = int(word[1])
-        elif word[0] == "UNMOUNTABLE":
-            sys.exit("the file system can't be mounted")
-        elif "I/O error" in line or "Runtime error" in line or word[0] == "STOPPED":
+        elif "I/O error" in line or "Runtime error" in line or word[0] in ("UNMOUNTABLE", "STOPPED"):
             break
     return last
 
@@ -114,22 +112,25 @@ def main():
     words = ask.parse_intermixed_args()
     need({"qemu-system-x86_64": "qemu-system-x86", "busybox": "busybox-static", "sqlite3": "sqlite3", "cpio": "cpio", "modprobe": "kmod"})
     if not glob.glob("/boot/vmlinuz-*"):
-        sys.exit("guest_cuts.py: there is no kernel in /boot (Debian: apt-get install linux-image-amd64)")
+        fails("there is no kernel in /boot (Debian: apt-get install linux-image-amd64)", 77)
     disk, draw, begun, last = Server(words.pcm, words.parameters, words.plugin), random.Random(words.seed), time.time(), 0
     kernel = initramfs(disk.dir, words)
     uri = disk.must_run().uri()
     with open(disk.dir / "image", "wb") as file:
         file.truncate(int(run("nbdinfo", "--size", uri).stdout))
     run("mkfs.ext4", "-q", "-b", "1024", disk.dir / "image")
-    run("nbdcopy", disk.dir / "image", uri)
-    for cycle in range(words.cycles + 1):
-        before = last
+    disk.through_cuts(lambda: run("nbdcopy", disk.dir / "image", uri))
+    is_over, cycle = False, 0
+    while not is_over:
+        before, cuts = last, disk.control()["cut"]
 
         def when_ready(found):
+            nonlocal is_over
             print(f"boot {cycle} at {time.time() - begun:.0f} s: whole, {found} rows, {before} were committed", flush=True)
-            if cycle < words.cycles:
-                disk.control(f"cut {draw.randrange(1, words.most_ticks + 1)}")
-            return cycle == words.cycles
+            is_over = cycle >= words.cycles
+            if not is_over:
+                disk.cut_in(draw.randrange(1, words.most_ticks + 1))
+            return is_over
 
         qemu = boot(disk, kernel, words.accel)
         atexit.register(qemu.kill)
@@ -138,8 +139,12 @@ def main():
         qemu.stdout.close()
         qemu.wait()
         atexit.unregister(qemu.kill)
-    print("module:", disk.end())
-    print(f"all right: {words.cycles} cuts, {last} transactions")
+        if not is_over and disk.control()["cut"] == cuts:
+            sys.exit(f"boot {cycle} ended, and no power cut came")
+        cycle += 1
+    told = disk.end()
+    print("module:", told)
+    print(f"all right: {told['cut']} cuts, {last} transactions")
 
 
 if __name__ == "__main__":
