@@ -51,8 +51,8 @@ class Disk(Server):
         self.loop = run("losetup", "--show", "-f", self.file).stdout.strip()
         return self.loop
 
-    def tell(self, *command):
-        """What a command does to the block device."""
+    def run_on_it(self, *command):
+        """A command runs on the block device, which is there for it alone."""
         self.attach()
         try:
             return run(*command, self.loop)

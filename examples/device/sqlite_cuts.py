@@ -4,8 +4,8 @@
     sqlite_cuts.py PCM [--cycles N] [--mode delete|wal] [--sync full|extra] [--log FILE] [KEY=VALUE ..]
 
 KEY=VALUE are parameters of the module and the disk. It needs root, and what disks.py names. One server lives all along. In each cycle the
-disk is attached and mounted, and transactions run until the cut, which is due in a drawn number of ticks (of a relay: anywhere), ends the connection; then all is
-taken down and attached again. The kernel replays ext4's journal, `e2fsck -fn` must find nothing behind it, and the data base must be whole, with
+disk is attached and mounted, and transactions run until the cut, which is due in a drawn number of ticks (of a relay: anywhere), ends the connection; then
+all is taken down and attached again. The kernel replays ext4's journal, `e2fsck -fn` must find nothing behind it, and the data base must be whole, with
 all transactions that were committed and at most the one under way besides. (With a rollback journal and --sync full SQLite promises less:
 the last transaction may be undone.) The numbers that it reports: cuts, committed transactions, how often the one under way came through
 or didn't, and what the module's counts are. Its status is 1 where something is wrong, and 3 where it can't go on, since transactions end
@@ -67,21 +67,25 @@ class Base:
             pass
 
     def recover_through_cuts(self, cycle):
+        """What is found where no cut came meanwhile. (SQLite tells a page that can't be read as one that isn't whole.)"""
         while True:
             self.before, self.base = self.disk.control()["cut"], None
             try:
-                return self.recover(cycle == 0)
+                found, fault = self.recover(cycle == 0), None
             except (RuntimeError, sqlite3.Error, OSError) as error:
-                told = self.disk.control()
-                if told["read_only"]:
-                    self.ends_without_a_cut(cycle, error)
-                if told["cut"] == self.before:
-                    # no cut came in between: the file system, or the data base, isn't what it was
-                    sys.exit(f"cycle {cycle}: {error}")
-                self.counts["in_recovery"] += 1
-                if self.base:
-                    self.close()
-                self.disk.detach()
+                fault = error
+            told = self.disk.control()
+            if fault and told["read_only"]:
+                self.ends_without_a_cut(cycle, fault)
+            if told["cut"] == self.before:
+                if not fault:
+                    return found
+                # the file system, or the data base, isn't what it was
+                sys.exit(f"cycle {cycle}: {fault}")
+            self.counts["in_recovery"] += 1
+            if self.base:
+                self.close()
+            self.disk.detach()
 
     def judge(self, cycle, whole, found, number):
         """Whether what is found is what may be."""
@@ -135,7 +139,7 @@ def main():
     words = ask.parse_intermixed_args()
     disk = Disk(words.pcm, words.parameters, words.plugin, words.log)
     try:
-        disk.through_cuts(lambda: disk.tell("mkfs.ext4", "-q", "-b", words.block))
+        disk.through_cuts(lambda: disk.run_on_it("mkfs.ext4", "-q", "-b", words.block))
     except RuntimeError as error:
         print(error, file=sys.stderr)
         sys.exit(3)
@@ -148,7 +152,7 @@ def main():
                 print(f"cycle {cycle}: {base.number} committed, ended by {last}", flush=True)
     base.close()
     disk.detach()
-    fsck = disk.through_cuts(lambda: disk.tell("e2fsck", "-fn"))
+    fsck = disk.through_cuts(lambda: disk.run_on_it("e2fsck", "-fn"))
     print("e2fsck -fn:", fsck.stdout.strip().splitlines()[-1])
     print("module:", disk.end())
     print("all right:", base.counts)

@@ -72,7 +72,7 @@ def can_multi_conn(_it: Connection) -> bool:
 
 def get_size(it: Connection) -> int:
     """Bytes."""
-    return CONTROL_BYTES if it.is_control else disk.get_size()
+    return CONTROL_BYTES if it.is_control else int(disk.get_size())
 
 
 def told() -> str:
