@@ -2,6 +2,7 @@
 #
 #   begins NAME             makes $room, a folder that goes away with the check however it ends; NAME stands in front of what is told
 #   holds WHAT COMMAND..    the command ends well; what it prints is shown where it doesn't
+#   may_hold WHAT COMMAND.. the same; with status 77 it says last what isn't here, and is skipped
 #   same WHAT WANTED GOT    two texts are the same
 #   passed                  something that was tried by other means passed,
 #   failed WHAT [WHY]       or failed,
@@ -44,6 +45,17 @@ holds() {
         cat "$room/said"
         failed "$what"
     fi
+}
+
+may_hold() {
+    local what="$1"
+    shift
+    "$@" >"$room/said" 2>&1
+    case $? in
+        0) passed ;;
+        77) skipped "$what" "$(tail -n 1 "$room/said")" ;;
+        *) cat "$room/said" && failed "$what" ;;
+    esac
 }
 
 same() {

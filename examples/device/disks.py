@@ -51,6 +51,14 @@ class Disk(Server):
         self.loop = run("losetup", "--show", "-f", self.file).stdout.strip()
         return self.loop
 
+    def run_on_it(self, *command):
+        """A command runs on the block device, which is there for it alone."""
+        self.attach()
+        try:
+            return run(*command, self.loop)
+        finally:
+            self.detach()
+
     def detach(self):
         for _ in range(20):
             if not mounted(self.mount) or run("umount", self.mount, ok=(0, 1, 32)).returncode == 0:

@@ -1,6 +1,6 @@
 #!/usr/bin/python3
-"""A machine whose only disk is a module: Linux in qemu, SQLite on ext4 on /dev/vda; the power is cut, the machine killed, booted again and
-checked.
+"""A machine whose only disk is a module: Linux in qemu, SQLite on ext4 on /dev/vda; the power is cut (of a relay: also as it boots), the machine killed,
+booted again and checked.
 
     guest_cuts.py PCM [--cycles N] [--seed X] [--mode delete|wal] [--sync full|extra] [--most-ticks N] [KEY=VALUE ..]
 
@@ -8,6 +8,7 @@ It needs no root; of Debian what servers.py names, libnbd-bin, e2fsprogs, qemu-s
 sqlite3, cpio and kmod. In each boot the data base must be whole, with all transactions that were committed before the cut and at most one more.
 Reports the rows that each boot found, and the module's counts."""
 import atexit
+import collections
 import glob
 import gzip
 import os
@@ -18,7 +19,7 @@ import subprocess
 import sys
 import time
 
-from servers import Server, asking_of_cuts, need, run
+from servers import Server, asking_of_cuts, fails, need, run
 
 INIT = """#!/bin/busybox sh
 /bin/busybox --install -s /bin
@@ -77,17 +78,19 @@ def initramfs(folder, words):
 
 
 def boot(disk, kernel, accelerator):
+    """(On a busy host a kernel that checks its timer may take it for a broken one, and panic.)"""
     return subprocess.Popen(
         ["qemu-system-x86_64", "-accel", accelerator, "-m", "256", "-display", "none", "-serial", "stdio", "-monitor", "none", "-no-reboot", "-kernel", kernel,
-         "-initrd", disk.dir / "initramfs", "-append", "console=ttyS0 quiet panic=-1", "-blockdev",
+         "-initrd", disk.dir / "initramfs", "-append", "console=ttyS0 quiet panic=-1 no_timer_check", "-blockdev",
          f"driver=nbd,node-name=pcm,server.type=unix,server.path={disk.sock},export=", "-device", "virtio-blk-pci,drive=pcm"],
         stdin=subprocess.DEVNULL, stdout=subprocess.PIPE, stderr=subprocess.STDOUT, text=True, errors="replace")
 
 
-def follow(qemu, last, when_ready):
-    """Reads what the machine says until it stops; how many transactions were committed. `last` were before."""
+def follow(qemu, last, said, was_cut, when_ready):
+    """Reads what the machine says until it stops; how many transactions were committed. `last` were before, `said` takes its lines."""
     found, checked = None, None
     for line in qemu.stdout:
+        said.append(line)
         word = line.strip().split("|")
         if word[0] == "CHECK":
             checked = word[1]
@@ -95,15 +98,15 @@ def follow(qemu, last, when_ready):
             found = [int(it) for it in word[1:]]
         elif word[0] == "READY":
             if checked != "ok" or found is None or not found[0] == found[1] == found[2] or not last <= found[1] <= last + 1:
+                if was_cut():
+                    break
                 sys.exit(f"wrong: integrity_check {checked}, rows {found}, {last} were committed")
             last = found[1]
             if when_ready(found[0]):
                 break
         elif word[0] == "COMMITTED":
             last = int(word[1])
-        elif word[0] == "UNMOUNTABLE":
-            sys.exit("the file system can't be mounted")
-        elif "I/O error" in line or "Runtime error" in line or word[0] == "STOPPED":
+        elif "I/O error" in line or "Runtime error" in line or word[0] in ("UNMOUNTABLE", "STOPPED"):
             break
     return last
 
@@ -114,32 +117,42 @@ def main():
     words = ask.parse_intermixed_args()
     need({"qemu-system-x86_64": "qemu-system-x86", "busybox": "busybox-static", "sqlite3": "sqlite3", "cpio": "cpio", "modprobe": "kmod"})
     if not glob.glob("/boot/vmlinuz-*"):
-        sys.exit("guest_cuts.py: there is no kernel in /boot (Debian: apt-get install linux-image-amd64)")
+        fails("there is no kernel in /boot (Debian: apt-get install linux-image-amd64)", 77)
     disk, draw, begun, last = Server(words.pcm, words.parameters, words.plugin), random.Random(words.seed), time.time(), 0
     kernel = initramfs(disk.dir, words)
     uri = disk.must_run().uri()
     with open(disk.dir / "image", "wb") as file:
         file.truncate(int(run("nbdinfo", "--size", uri).stdout))
     run("mkfs.ext4", "-q", "-b", "1024", disk.dir / "image")
-    run("nbdcopy", disk.dir / "image", uri)
-    for cycle in range(words.cycles + 1):
-        before = last
+    disk.through_cuts(lambda: run("nbdcopy", disk.dir / "image", uri))
+    is_over, cycle = False, 0
+    while not is_over:
+        before, cuts, said = last, disk.control()["cut"], collections.deque(maxlen=20)
+
+        def was_cut():
+            return disk.control()["cut"] > cuts
 
         def when_ready(found):
+            nonlocal is_over
             print(f"boot {cycle} at {time.time() - begun:.0f} s: whole, {found} rows, {before} were committed", flush=True)
-            if cycle < words.cycles:
-                disk.control(f"cut {draw.randrange(1, words.most_ticks + 1)}")
-            return cycle == words.cycles
+            is_over = cycle >= words.cycles
+            if not is_over:
+                disk.cut_in(draw.randrange(1, words.most_ticks + 1))
+            return is_over
 
         qemu = boot(disk, kernel, words.accel)
         atexit.register(qemu.kill)
-        last = follow(qemu, last, when_ready)
+        last = follow(qemu, last, said, was_cut, when_ready)
         qemu.kill()
         qemu.stdout.close()
         qemu.wait()
         atexit.unregister(qemu.kill)
-    print("module:", disk.end())
-    print(f"all right: {words.cycles} cuts, {last} transactions")
+        if not is_over and not was_cut():
+            sys.exit(f"boot {cycle} ended, and no power cut came: {''.join(said)}")
+        cycle += 1
+    told = disk.end()
+    print("module:", told)
+    print(f"all right: {told['cut']} cuts, {last} transactions")
 
 
 if __name__ == "__main__":

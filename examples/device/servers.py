@@ -1,11 +1,12 @@
 """A server of a disk on a module, for the scripts of this folder. It needs, of Debian, nbdkit, nbdkit-plugin-dev, python3-libnbd, make and gcc, and
-the system's python3."""
+the system's python3; with ../disk/relay.py as its plugin nbdkit-plugin-python in place of nbdkit-plugin-dev, make and gcc."""
 import argparse
 import atexit
 import os
 import pathlib
 import shutil
 import signal
+import socket
 import subprocess
 import sys
 import tempfile
@@ -54,7 +55,7 @@ def asking(about, *names):
     for name in ("pcm", *names):
         ask.add_argument(name)
     ask.add_argument("parameters", nargs="*", default=[], metavar="KEY=VALUE")
-    ask.add_argument("--plugin")
+    ask.add_argument("--plugin", help="one that was built before; or by what `PCM disk` serves, with its options: examples/disk/relay.py, or nbd")
     return ask
 
 
@@ -95,9 +96,10 @@ class Server:
 
     def __init__(self, pcm, parameters, plugin=None, log=None, copies=False):
         """`log`: a file of the caller's, or True for one in the server's folder. `copies`: it goes from row to row of its log."""
-        need({"nbdkit": "nbdkit", "make": "make", "gcc": "gcc"})
+        self.tells, self.is_relay = plugin != "nbd", plugin == "nbd" or str(plugin).endswith(".py")
+        need({"nbdkit": "nbdkit", **({} if self.is_relay else {"make": "make", "gcc": "gcc"})})
         self.dir = pathlib.Path(tempfile.mkdtemp(prefix="pcm-device-"))
-        self.process, self.open = None, []
+        self.process, self.program, self.open = None, None, []
         atexit.register(self.leave)
         for number in (signal.SIGTERM, signal.SIGHUP):
             signal.signal(number, lambda *_: sys.exit(1))
@@ -107,14 +109,26 @@ class Server:
             run("make", "-s", "-C", TOP / "c", "copies", f"OUT={self.dir}")
             parameters = [*parameters, f"copies={self.dir / 'pcm_copy.so'}"]
         self.sock, self.report, ready = self.dir / "sock", self.dir / "report", self.dir / "pid"
-        words = ["nbdkit", "-f", "-U", self.sock, "-P", ready, plugin, f"pcm={pcm if '/' not in str(pcm) else os.path.abspath(pcm)}", *parameters]
+        pcm = pcm if "/" not in str(pcm) else os.path.abspath(pcm)
         if log:
             self.log = self.dir / "log.csv" if log is True else pathlib.Path(log).absolute()
-            words.append(f"log={self.log}")
+            parameters = [*parameters, f"log={self.log}"]
+        nbdkit = ["nbdkit", "-f", "-U", self.sock, "-P", ready]
         with open(self.dir / "said", "w") as said:
-            self.process = subprocess.Popen([*words, f"report={self.report}"], stderr=said)
+            if self.tells:
+                words = [*["python"] * self.is_relay, plugin, f"pcm={pcm}", *parameters, f"report={self.report}"]
+                self.process = subprocess.Popen([*nbdkit, *words], stderr=said)
+            else:
+                self.process = self.relay([pcm, "disk", *(word for it in parameters for word in f"--{it}".split("=", 1))], nbdkit, said)
         while not ready.exists() and self.process.poll() is None:
             time.sleep(0.01)
+
+    def relay(self, words, nbdkit, said):
+        """nbdkit's own relay, before a program that serves its one client."""
+        ours, its = socket.socketpair()
+        with ours, its:
+            self.program = subprocess.Popen(words, stdin=its, stdout=its, stderr=said)
+            return subprocess.Popen([*nbdkit, "nbd", "shared=true", f"socket-fd={ours.fileno()}"], stderr=said, pass_fds=[ours.fileno()])
 
     def said(self):
         return (self.dir / "said").read_text()
@@ -140,13 +154,31 @@ class Server:
         return it
 
     def control(self, text=None):
-        """Gives the control export a word, and answers what it tells."""
+        """Gives the control export a word, and answers what it tells; nbdkit's own relay tells nothing."""
         it = self.connect("control")
         if text:
             it.pwrite(text.encode(), 0)
-        told = it.pread(4096, 0).decode()
+        told = it.pread(4096, 0).decode() if self.tells else ""
         self.open.pop().shutdown()
         return numbers(told)
+
+    def cut_in(self, ticks):
+        """Asks for a power cut; a relay's program has drawn its own when it began (cuts=N cut-every=T)."""
+        if not self.is_relay:
+            self.control(f"cut {ticks}")
+
+    def through_cuts(self, act):
+        """What an act answers amid which no power cut came: until then it is done again."""
+        while True:
+            before = self.control()["cut"]
+            try:
+                answer = act()
+            except RuntimeError:
+                if self.control()["cut"] == before:
+                    raise
+            else:
+                if self.control()["cut"] == before:
+                    return answer
 
     def stop(self):
         """Ends it: it waits for its connections to be closed, so they are."""

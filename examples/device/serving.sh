@@ -1,7 +1,7 @@
 # shellcheck shell=bash
 # Functions for the scripts of this folder. `need TOOL PACKAGE ..` ends the script with status 77 where a tool isn't there; `serve KEY=VALUE ..`
 # starts a server of the disk, `unserve` ends it and prints its report in one line, `fails` ends the script with what the server said. $pcm is the program; $dir is a folder that goes away with
-# the shell, and with it all that was started.
+# the shell, and with it all that was started. $PLUGIN may be a plugin that was built before, or examples/disk/relay.py: so $pcm disk serves.
 here=$(cd "$(dirname "${BASH_SOURCE[0]}")" && pwd)
 top=$(cd "$here/../.." && pwd)
 PATH=/usr/bin:$PATH # (nbdsh needs the python3 of the system, where its module is)
@@ -38,7 +38,9 @@ serve() {
     need nbdkit nbdkit nbdinfo libnbd-bin
     plugin
     rm -f "$dir/report" "$dir/sock" "$dir/pid"
-    nbdkit -f -U "$dir/sock" -P "$dir/pid" "$PLUGIN" pcm="$pcm" report="$dir/report" "$@" 2>"$dir/err" &
+    local language=()
+    case $PLUGIN in *.py) language=(python) ;; esac
+    nbdkit -f -U "$dir/sock" -P "$dir/pid" "${language[@]}" "$PLUGIN" pcm="$pcm" report="$dir/report" "$@" 2>"$dir/err" &
     server=$!
     while [ ! -e "$dir/pid" ] && kill -0 "$server" 2>/dev/null; do sleep 0.02; done
     # (it listens, and is asked once the program has been started)

@@ -1,16 +1,15 @@
 #!/usr/bin/python3
-"""What a request costs in processor time, in nbdkit with its plugin and in the program: writes and then reads of blocks, one at a time, at drawn
-places.
+"""What a request costs in processor time, in nbdkit with its plugin (--plugin nbd: its relay, over `PCM disk`) and in the program: writes and then reads
+of blocks, one at a time, at drawn places.
 
     speed.py PCM [--requests N] [--size BYTES] [KEY=VALUE ..]
 
 Prints, for each, microseconds (user and system), rows, ticks, and how often the program was waited for. It needs what servers.py names."""
-import argparse
 import os
 import pathlib
 import random
 
-from servers import Server, whole
+from servers import Server, asking, whole
 
 TICK = os.sysconf("SC_CLK_TCK")
 
@@ -23,28 +22,27 @@ def seconds(process):
 
 def program_of(server):
     """The process of the program, which the server's has started."""
-    (child,) = pathlib.Path(f"/proc/{server}/task/{server}/children").read_text().split()
+    if server.program:
+        return server.program.pid
+    (child,) = pathlib.Path(f"/proc/{server.process.pid}/task/{server.process.pid}/children").read_text().split()
     return int(child)
 
 
 def measure(server, words, kind, act):
-    processes = [server.process.pid, program_of(server.process.pid)]
+    processes = [server.process.pid, program_of(server)]
     before, told = [seconds(it) for it in processes], server.control()
     for _ in range(words.requests):
         act()
     after, last = [seconds(it) for it in processes], server.control()
     each = [1e6 * (to - since) / words.requests for since, to in zip(before, after)]
-    counts = [(last[it] - told[it]) / words.requests for it in ("rows", "tick", "settles")]
+    counts = [(last[it] - told[it]) / words.requests for it in ("rows", "tick", "settles") if it in told]
     print(kind, words.size, words.requests, *(f"{it:.1f}" for it in (*each, sum(each), *counts)), sep=",", flush=True)
 
 
 def main():
-    ask = argparse.ArgumentParser(description=__doc__, formatter_class=argparse.RawDescriptionHelpFormatter)
-    ask.add_argument("pcm")
-    ask.add_argument("parameters", nargs="*", default=[], metavar="KEY=VALUE")
+    ask = asking(__doc__)
     ask.add_argument("--requests", type=whole(1), default=10000)
     ask.add_argument("--size", type=whole(1, 2**25), default=4096)
-    ask.add_argument("--plugin")
     words = ask.parse_intermixed_args()
     with Server(words.pcm, words.parameters, words.plugin) as server:
         disk, draw = server.must_run().connect(), random.Random(1)
@@ -52,7 +50,7 @@ def main():
         if blocks == 0:
             ask.error(f"--size {words.size}: the disk has {disk.get_size()} bytes")
         data = [draw.randbytes(words.size) for _ in range(64)]
-        print("request,bytes,requests,us_nbdkit,us_program,us,rows,ticks,waits")
+        print("request,bytes,requests,us_nbdkit,us_program,us" + ",rows,ticks,waits" * (not server.is_relay))
         measure(server, words, "write", lambda: disk.pwrite(draw.choice(data), words.size * draw.randrange(blocks)))
         measure(server, words, "read", lambda: disk.pread(words.size, words.size * draw.randrange(blocks)))
 

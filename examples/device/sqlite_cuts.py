@@ -4,8 +4,8 @@
     sqlite_cuts.py PCM [--cycles N] [--mode delete|wal] [--sync full|extra] [--log FILE] [KEY=VALUE ..]
 
 KEY=VALUE are parameters of the module and the disk. It needs root, and what disks.py names. One server lives all along. In each cycle the
-disk is attached and mounted, and transactions run until the cut, which is due in a drawn number of ticks, ends the connection; then all is
-taken down and attached again. The kernel replays ext4's journal, `e2fsck -fn` must find nothing behind it, and the data base must be whole, with
+disk is attached and mounted, and transactions run until the cut, which is due in a drawn number of ticks (of a relay: anywhere), ends the connection; then
+all is taken down and attached again. The kernel replays ext4's journal, `e2fsck -fn` must find nothing behind it, and the data base must be whole, with
 all transactions that were committed and at most the one under way besides. (With a rollback journal and --sync full SQLite promises less:
 the last transaction may be undone.) The numbers that it reports: cuts, committed transactions, how often the one under way came through
 or didn't, and what the module's counts are. Its status is 1 where something is wrong, and 3 where it can't go on, since transactions end
@@ -26,17 +26,18 @@ class Base:
     def __init__(self, disk, words):
         self.disk, self.words, self.draw = disk, words, random.Random(words.seed)
         self.rows, self.earlier, self.begun, self.number = {}, {}, None, 0
+        self.before = 0  # cuts that came before the disk was attached
         self.counts = dict(cuts=0, committed=0, forward=0, back=0, undone=0, in_recovery=0)
 
-    def ends_without_a_cut(self, cycle, before, error):
+    def ends_without_a_cut(self, cycle, error):
         """Whatever ended it: where no cut came, nothing is tried. Where one did, how many came."""
         told = self.disk.control()
         if told["read_only"]:
             why = "the module is worn out, and the disk only reads"
-        elif told["cut"] == before:
+        elif told["cut"] == self.before:
             why = "no power cut came, but this"
         else:
-            return told["cut"] - before
+            return told["cut"] - self.before
         print(f"cycle {cycle}: {why}: {error} ({self.number} transactions were committed)", file=sys.stderr)
         self.disk.leave()
         sys.exit(3)
@@ -45,7 +46,7 @@ class Base:
         """The disk attached and mounted, and the data base opened: its integrity, rows and number."""
         self.disk.attach()
         if not is_first and self.words.recovery_ticks and self.draw.random() < 0.7:
-            self.disk.control(f"cut {self.draw.randrange(1, self.words.recovery_ticks + 1)}")
+            self.disk.cut_in(self.draw.randrange(1, self.words.recovery_ticks + 1))
         # the kernel replays its journal: nothing may be left to mend behind it
         run("mount", "-t", "ext4", self.disk.loop, self.disk.mount)
         run("umount", self.disk.mount)
@@ -66,22 +67,25 @@ class Base:
             pass
 
     def recover_through_cuts(self, cycle):
+        """What is found where no cut came meanwhile. (SQLite tells a page that can't be read as one that isn't whole.)"""
         while True:
-            before = self.disk.control()["cut"]
-            self.base = None
+            self.before, self.base = self.disk.control()["cut"], None
             try:
-                return self.recover(cycle == 0)
+                found, fault = self.recover(cycle == 0), None
             except (RuntimeError, sqlite3.Error, OSError) as error:
-                told = self.disk.control()
-                if told["read_only"]:
-                    self.ends_without_a_cut(cycle, before, error)
-                if told["cut"] == before:
-                    # no cut came in between: the file system, or the data base, isn't what it was
-                    sys.exit(f"cycle {cycle}: {error}")
-                self.counts["in_recovery"] += 1
-                if self.base:
-                    self.close()
-                self.disk.detach()
+                fault = error
+            told = self.disk.control()
+            if fault and told["read_only"]:
+                self.ends_without_a_cut(cycle, fault)
+            if told["cut"] == self.before:
+                if not fault:
+                    return found
+                # the file system, or the data base, isn't what it was
+                sys.exit(f"cycle {cycle}: {fault}")
+            self.counts["in_recovery"] += 1
+            if self.base:
+                self.close()
+            self.disk.detach()
 
     def judge(self, cycle, whole, found, number):
         """Whether what is found is what may be."""
@@ -115,14 +119,13 @@ class Base:
         self.counts["committed"] += 1
 
     def work_until_a_cut(self, cycle):
-        before = self.disk.control()["cut"]
-        self.disk.control(f"cut {self.draw.randrange(1, self.words.most_ticks + 1)}")
+        self.disk.cut_in(self.draw.randrange(1, self.words.most_ticks + 1))
         try:
             while True:
                 self.one_transaction()
         except (sqlite3.Error, OSError) as error:
             last = error
-        self.counts["cuts"] += self.ends_without_a_cut(cycle, before, last)
+        self.counts["cuts"] += self.ends_without_a_cut(cycle, last)
         self.close()
         self.disk.detach()
         return last
@@ -136,11 +139,10 @@ def main():
     words = ask.parse_intermixed_args()
     disk = Disk(words.pcm, words.parameters, words.plugin, words.log)
     try:
-        run("mkfs.ext4", "-q", "-b", words.block, disk.attach())
+        disk.through_cuts(lambda: disk.run_on_it("mkfs.ext4", "-q", "-b", words.block))
     except RuntimeError as error:
         print(error, file=sys.stderr)
         sys.exit(3)
-    disk.detach()
     base = Base(disk, words)
     for cycle in range(words.cycles + 1):
         base.judge(cycle, *base.recover_through_cuts(cycle))
@@ -150,10 +152,7 @@ def main():
                 print(f"cycle {cycle}: {base.number} committed, ended by {last}", flush=True)
     base.close()
     disk.detach()
-    disk.control(f"wait {max(words.most_ticks, words.recovery_ticks)}")  # (cuts that are still due come while nobody is there)
-    disk.attach()
-    fsck = run("e2fsck", "-fn", disk.loop)
-    disk.detach()
+    fsck = disk.through_cuts(lambda: disk.run_on_it("e2fsck", "-fn"))
     print("e2fsck -fn:", fsck.stdout.strip().splitlines()[-1])
     print("module:", disk.end())
     print("all right:", base.counts)

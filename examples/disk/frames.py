@@ -73,6 +73,10 @@ class Model:
         self.at += count
         return self.data[self.at - count:self.at]
 
+    def is_over(self) -> bool:
+        """Whether the client's bytes end here."""
+        return self.at == len(self.data)
+
     def say(self, *data: bytes) -> None:
         """Answers."""
         self.out += data
@@ -82,7 +86,7 @@ class Model:
         try:
             self.handshake()
             while True:
-                if self.at == len(self.data):
+                if self.is_over():
                     raise Ending(0)
                 self.request()
         except Ending as end:
@@ -91,13 +95,13 @@ class Model:
     def handshake(self) -> None:
         """Options up to the one that begins the requests."""
         self.say(GREETING)
-        if self.at == len(self.data):
+        if self.is_over():
             raise Ending(0)
         flags, = struct.unpack(">I", self.take(4))
         if flags > 3:
             raise Ending(*NO_MESSAGE)
         while True:
-            if self.at == len(self.data):
+            if self.is_over():
                 raise Ending(0)
             if self.option(flags & 2 == 0):
                 return
