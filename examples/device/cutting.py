@@ -26,6 +26,9 @@ def asking_to_cut(about, cuts, most):
     ask.add_argument("--between", action="store_true", help="cut between requests, not at ticks")
     ask.add_argument("--most", type=whole(1), help=f"until a cut, at most: ticks ({most}), or with --between requests that write or flush (200)")
     ask.add_argument("--recovery", type=whole(0), default=0, help="also cut while it recovers, in so many ticks at most")
+    ask.add_argument("--mkfs", metavar="CMD", help="what makes the file system on $DISK")
+    ask.add_argument("--options", help="of mount")
+    ask.add_argument("--check", metavar="CMD", help="what looks at $DISK when it isn't mounted")
     ask.add_argument("--seconds", type=whole(1), default=60, help="until the plug is pulled by hand, where no cut came")
     ask.set_defaults(ticks=most)
     return ask
@@ -48,14 +51,22 @@ def writes_of(told):
 
 
 class Cutter:
-    """A disk, and the cuts under software on it: `server` serves it, as a Disk where `mount` says how it is mounted."""
+    """A disk, and the cuts under software on it: `server` serves it, as a Disk where --mkfs says what is mounted of it."""
 
-    def __init__(self, server, words, mount=None):
-        self.server, self.words, self.mount = server, words, mount
+    def __init__(self, server, words):
+        self.server, self.words = server, words
+        self.mount = ["mount", *(["-o", words.options] if words.options else [])] if words.mkfs else None
         self.draw = random.Random(words.seed)
         self.lines = (0, 0)
         self.counts = dict(cuts=0, by_hand=0, in_recovery=0)
         self.ticks = self.writes = 0  # of the work, up to its cuts
+
+    def make(self):
+        """A new file system, mounted."""
+        self.attach()
+        if self.mount:
+            must("mkfs", self.words.mkfs, {"DISK": self.server.loop}, Stops)
+        self.mount_it()
 
     def attach(self):
         if self.mount:
@@ -134,3 +145,10 @@ def shell(text, variables, folder, said=None):
     return subprocess.Popen(["sh", "-c", text], env={**os.environ, **{key: str(value) for key, value in variables.items()}}, cwd=folder,
                             stdin=subprocess.DEVNULL, stdout=said, stderr=subprocess.STDOUT, start_new_session=True)
 
+
+def must(what, text, variables, error):
+    """A command of the user's, to its end; the error is raised where it has another status than 0."""
+    process = shell(text, variables, None, subprocess.PIPE)
+    said = process.communicate()[0].decode(errors="replace").strip()
+    if process.returncode != 0:
+        raise error(f"{what} ended with status {process.returncode}: {said[-1500:]}")
