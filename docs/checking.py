@@ -14,6 +14,7 @@ import bodies
 import crates
 import definitions
 import pages
+import staging
 
 COMMANDS = ("README.md", "docs/USING.md", "docs/VERIFYING.md")
 HEADER = b"tick,op,arg,data\n"
@@ -23,9 +24,9 @@ EXAMPLE = re.compile(r"Example: `((?:run|gen|map|moves|show|check|stream|explain
 ALONE = {it: TOP / "crates" / f"pcm_{it}" / "out" / f"pcm_{it}" for it in pages.table().ALONE}
 WHOLE_LINE = re.compile(r"\b(?:[0-9a-f]{256}|[0-9a-f]{128})\b")
 HELP_PAGES = ((), *((it,) for it in pages.table().COMMANDS))
-# Words of documents that name nothing of this repository: units, commands and calls of the system, a type of std, and one that
-# DECISIONS.md says isn't there; and words that stand for names.
-FOREIGN = {"MiB", "GiB", "renice", "parallel", "sbatch", "valgrind", "RulePolicy", "AllocError", "posix_spawnp"}
+# Words of documents that name nothing of this repository: units, commands and calls of the system, a type of std, and what DECISIONS.md
+# says isn't there; and words that stand for names.
+FOREIGN = {"MiB", "GiB", "renice", "parallel", "sbatch", "valgrind", "RulePolicy", "wear_report", "AllocError", "posix_spawnp"}
 FOREIGN_OPTIONS = {"option", "progress", "sshlogin", "anew"}
 PLACEHOLDER = re.compile(r"\b(NAME|TOOL|CRATE|PATH|LOG|PROGRAM|COMMAND|TABLE|FILE|WORD|SECTION|IMAGE|WHY|KIND|RULE|BYTES)\b")
 
@@ -146,7 +147,7 @@ def installed(tree, program):
     shutil.copy(TOP / "pcm", room)
     links = {f"bin/{it}": TOP / it for it in ("examples", "python", "c")}
     links |= {"libexec/pcm/pcm_cli": program, **{f"libexec/pcm/{it.name}": it for it in ALONE.values()}}
-    links |= {"share/pcm/python": TOP / "python", "share/pcm/USING.md": TOP / "docs" / "USING.md", "share/pcm/VERSION": TOP / "VERSION"}
+    links |= {"share/pcm/python": TOP / "python", "share/pcm/docs": TOP / "docs", "share/pcm/VERSION": TOP / "VERSION"}
     for name, target in links.items():
         pathlib.Path(tree, name).symlink_to(target)
     return str(room)
@@ -422,11 +423,16 @@ def check_names():
 
 
 def lost_names(text=None):
-    """Those of docs/names that don't stand in their crate: a type, a function, or a call of a type."""
+    """Those of docs/names that don't stand in their crate: a type, a function, or a call of a type; and crates that aren't there."""
     for line in (text or (TOP / "docs" / "names").read_text(encoding="utf-8")).splitlines():
         crate, colon, names = line.partition(":")
-        code = "\n".join(it.read_text(encoding="utf-8") for it in crates.named(crate).files("src")) if colon and not line.startswith("#") else ""
-        for name in names.split() if code else ():
+        if not colon or line.startswith("#"):
+            continue
+        if crate not in crates.listed():
+            yield f"docs/names: there is no crate {crate}"
+            continue
+        code = "\n".join(it.read_text(encoding="utf-8") for it in crates.named(crate).files("src"))
+        for name in names.split():
             of, _, call = name.rpartition("::")
             item = rf"(?:impl|trait)\b[^{{;]*\b{of}\b.*?\bfn {call}\b" if of else rf"\bpub (?:fn|struct|enum|trait) {name}\b"
             if not re.search(item, code, re.DOTALL):
@@ -584,6 +590,44 @@ def broken_links(document, text):
         path = (TOP / document).parent / file if file else TOP / document
         if not path.exists() or (anchor and anchor not in headings(path.read_text(encoding="utf-8"))):
             yield target
+
+
+def text_in(source):
+    """The text of a file of an installed tree."""
+    return source.decode() if isinstance(source, bytes) else source.read_text(encoding="utf-8")
+
+
+def lost_links(tree):
+    """Links of the pages of an installed tree, each file by its path, that lead to no file or section there."""
+    written = {path: text_in(source) for path, source in tree.items() if path.endswith(".md")}
+    folders = {str(above) for path in tree for above in pathlib.PurePosixPath(path).parents}
+    for path, text in written.items():
+        for target in re.findall(r"\]\(([^)\s]+)\)", re.sub(r"(?ms)^```.*?^```$", "", text)):
+            file, _, anchor = target.partition("#")
+            named = os.path.normpath(os.path.join(os.path.dirname(path), file)) if file else path
+            stands = named in tree or named in folders
+            if not re.match(r"\w+:", target) and not (stands and (not anchor or anchor in headings(written.get(named, "")))):
+                yield f"installed {path}: the link {target} leads nowhere"
+
+
+# Paths that stand in a checkout alone, and those that an installed tree has in share/pcm.
+OF_CHECKOUT = re.compile(r"(?<![\w/.])(?:tools|crates|bench|\.ci)/\w[\w.-]*")
+SHARED = re.compile(r"(?<![\w/.])(?:examples|docs|c|python|sv)/[\w./-]*\w")
+
+
+def absent(tree):
+    """What the manual and USING.md of an installed tree name and it hasn't: files; and ./pcm, but in blocks, which are for a copy that has it."""
+    for path, source in tree.items():
+        if path.endswith("/USING.md") or path.startswith("share/man/"):
+            text = text_in(source).replace("\\-", "-")
+            shared = {it for it in SHARED.findall(text) if not any(name.startswith(f"share/pcm/{it}") for name in tree)}
+            named = re.findall(r"(?<!\w)\./pcm\b", re.sub(r"(?ms)^```.*?^```$|^    .*?$", "", text))
+            yield from (f"installed {path}: there is no {it}" for it in sorted({*named, *OF_CHECKOUT.findall(text), *shared}))
+
+
+def check_installed():
+    tree = {path: source for path, source, _ in staging.files()}
+    yield from [*lost_links(tree), *absent(tree)] or [None]
 
 
 # A section that a file of code names: docs/MODEL.md, 'Lifetime'.
