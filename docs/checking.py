@@ -582,11 +582,16 @@ def headings(text):
     return {slug(it) for it in re.findall(r"(?m)^#+ (.*)$", re.sub(r"(?ms)^```.*?^```$", "", text))}
 
 
-def broken_links(document, text):
+def links_of(text):
+    """Yields the links of a page to files and sections, each with its file and its section, which may be empty."""
     for target in re.findall(r"\]\(([^)\s]+)\)", re.sub(r"(?ms)^```.*?^```$", "", text)):
-        if re.match(r"\w+:", target):
-            continue
-        file, _, anchor = target.partition("#")
+        if not re.match(r"\w+:", target):
+            file, _, anchor = target.partition("#")
+            yield target, file, anchor
+
+
+def broken_links(document, text):
+    for target, file, anchor in links_of(text):
         path = (TOP / document).parent / file if file else TOP / document
         if not path.exists() or (anchor and anchor not in headings(path.read_text(encoding="utf-8"))):
             yield target
@@ -600,13 +605,11 @@ def text_in(source):
 def lost_links(tree):
     """Links of the pages of an installed tree, each file by its path, that lead to no file or section there."""
     written = {path: text_in(source) for path, source in tree.items() if path.endswith(".md")}
-    folders = {str(above) for path in tree for above in pathlib.PurePosixPath(path).parents}
+    there = {*tree, *(str(above) for path in tree for above in pathlib.PurePosixPath(path).parents)}
     for path, text in written.items():
-        for target in re.findall(r"\]\(([^)\s]+)\)", re.sub(r"(?ms)^```.*?^```$", "", text)):
-            file, _, anchor = target.partition("#")
+        for target, file, anchor in links_of(text):
             named = os.path.normpath(os.path.join(os.path.dirname(path), file)) if file else path
-            stands = named in tree or named in folders
-            if not re.match(r"\w+:", target) and not (stands and (not anchor or anchor in headings(written.get(named, "")))):
+            if named not in there or (anchor and anchor not in headings(written.get(named, ""))):
                 yield f"installed {path}: the link {target} leads nowhere"
 
 
