@@ -9,6 +9,8 @@ from unittest import mock
 sys.dont_write_bytecode = True
 import checking
 import definitions
+import staging
+import trees
 
 
 class Commands(unittest.TestCase):
@@ -195,23 +197,23 @@ class Links(unittest.TestCase):
 
 class Installed(unittest.TestCase):
     def test_what_is_installed_names_nothing_that_is_not(self):
-        self.assertEqual([it for it in checking.check_installed() if it], [])
+        self.assertEqual([it for it in trees.check_installed() if it], [])
         text = checking.pages.USING.read_text(encoding="utf-8")
-        self.assertEqual([text.count(it) for it in checking.staging.OF_A_CHECKOUT], [1] * len(checking.staging.OF_A_CHECKOUT))
-        told = checking.staging.using().decode()
+        self.assertEqual([text.count(it) for it in staging.OF_A_CHECKOUT], [1] * len(staging.OF_A_CHECKOUT))
+        told = staging.using().decode()
         self.assertIn("`pcm run --option value .. < trace.csv`", told)
         self.assertIn("\n./pcm run < mine.csv\n", told)
 
     def test_a_dead_link_is_found(self):
         page = b"# One\n\n[a](../c) [b](b.md#two) [c](https://example.org/x)\n\n[d](#one) [e](gone.md) [f](b.md#gone) [g](#gone)\n"
         tree = {"share/pcm/docs/a.md": page, "share/pcm/docs/b.md": b"# Two\n", "share/pcm/c/pcm.h": b""}
-        found = [it.split()[4] for it in checking.lost_links(tree)]
+        found = [it.split()[4] for it in trees.lost_links(tree)]
         self.assertEqual(found, ["gone.md", "b.md#gone", "#gone"])
 
     def test_what_stands_in_a_checkout_alone_is_found(self):
         using = b"`./pcm map` of examples/a.csv and `examples/b`, by `tools/build library`.\n\n    ./pcm run\n\n```sh\n./pcm stream\n```\n"
         tree = {"share/pcm/docs/USING.md": using, "share/man/man1/pcm.1": b"\\fBpcm examples/a.csv\\fR, examples/no\\-file", "share/pcm/examples/a.csv": b""}
-        found = [it.split()[-1] for it in checking.absent(tree)]
+        found = [it.split()[-1] for it in trees.absent(tree)]
         self.assertEqual(found, ["./pcm", "examples/b", "tools/build", "examples/no-file"])
 
 
