@@ -1,5 +1,5 @@
 #!/usr/bin/env python3
-"""Tests of docs/checking.py: each part takes what is right, and names what is stale."""
+"""Tests of docs/checking.py and docs/trees.py: each part takes what is right, and names what is stale."""
 import pathlib
 import sys
 import tempfile

@@ -33,7 +33,7 @@ def absent(tree):
     for path, source in tree.items():
         if path.endswith("/USING.md") or path.startswith("share/man/"):
             text = text_in(source).replace("\\-", "-")
-            shared = {it for it in SHARED.findall(text) if not any(name.startswith(f"share/pcm/{it}") for name in tree)}
+            shared = {it for it in SHARED.findall(text) if not any(f"{name}/".startswith(f"share/pcm/{it}/") for name in tree)}
             named = re.findall(r"(?<!\w)\./pcm\b", re.sub(r"(?ms)^```.*?^```$|^    .*?$", "", text))
             yield from (f"installed {path}: there is no {it}" for it in sorted({*named, *OF_CHECKOUT.findall(text), *shared}))
 
