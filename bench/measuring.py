@@ -126,15 +126,16 @@ def timed(folder, *asked, **how):
 
 
 def machine():
-    """The processor's name, how many there are, and today's date."""
+    """The processor's name, and how many there are."""
     name = re.search(r"^model name\s*: (.*)$", pathlib.Path("/proc/cpuinfo").read_text(), re.M)
-    return f"{name[1] if name else 'Unknown processor'}, {os.cpu_count()} processors, {datetime.date.today()}."
+    return f"{name[1] if name else 'Unknown processor'}, {os.cpu_count()} processors"
 
 
 def write(name, text):
-    """Writes a section of docs/FIGURES.md, with the machine and the date."""
+    """Writes a section of docs/FIGURES.md, with the date, and with the machine where the page's head names another."""
     page = PAGE.read_text(encoding="utf-8")
-    found = f"<!-- {name} -->\n{text}\n\n{machine()}\n<!-- /{name} -->"
+    where = "" if machine() in page.partition("\n## ")[0] else f"{machine()}, "
+    found = f"<!-- {name} -->\n{text}\n\n{where}{datetime.date.today()}.\n<!-- /{name} -->"
     written = re.sub(rf"(?s)<!-- {name} -->.*<!-- /{name} -->", lambda _: found, page)
     if written == page:
         sys.exit(f"{pathlib.Path(sys.argv[0]).name}: {PAGE.relative_to(TOP)} has no section {name}, or it is as it was")

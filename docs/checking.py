@@ -23,9 +23,9 @@ EXAMPLE = re.compile(r"Example: `((?:run|gen|map|moves|show|check|stream|explain
 ALONE = {it: TOP / "crates" / f"pcm_{it}" / "out" / f"pcm_{it}" for it in pages.table().ALONE}
 WHOLE_LINE = re.compile(r"\b(?:[0-9a-f]{256}|[0-9a-f]{128})\b")
 HELP_PAGES = ((), *((it,) for it in pages.table().COMMANDS))
-# Words of documents that name nothing of this repository: units, commands and calls of the system, a type of std, and one that
-# DECISIONS.md says isn't there; and words that stand for names.
-FOREIGN = {"MiB", "GiB", "renice", "parallel", "sbatch", "valgrind", "RulePolicy", "AllocError", "posix_spawnp"}
+# Words of documents that name nothing of this repository: units, commands and calls of the system, a type of std, and what DECISIONS.md
+# says isn't there; and words that stand for names.
+FOREIGN = {"MiB", "GiB", "renice", "parallel", "sbatch", "valgrind", "RulePolicy", "wear_report", "AllocError", "posix_spawnp"}
 FOREIGN_OPTIONS = {"option", "progress", "sshlogin", "anew"}
 PLACEHOLDER = re.compile(r"\b(NAME|TOOL|CRATE|PATH|LOG|PROGRAM|COMMAND|TABLE|FILE|WORD|SECTION|IMAGE|WHY|KIND|RULE|BYTES)\b")
 
@@ -146,7 +146,7 @@ def installed(tree, program):
     shutil.copy(TOP / "pcm", room)
     links = {f"bin/{it}": TOP / it for it in ("examples", "python", "c")}
     links |= {"libexec/pcm/pcm_cli": program, **{f"libexec/pcm/{it.name}": it for it in ALONE.values()}}
-    links |= {"share/pcm/python": TOP / "python", "share/pcm/USING.md": TOP / "docs" / "USING.md", "share/pcm/VERSION": TOP / "VERSION"}
+    links |= {"share/pcm/python": TOP / "python", "share/pcm/docs": TOP / "docs", "share/pcm/VERSION": TOP / "VERSION"}
     for name, target in links.items():
         pathlib.Path(tree, name).symlink_to(target)
     return str(room)
@@ -422,11 +422,16 @@ def check_names():
 
 
 def lost_names(text=None):
-    """Those of docs/names that don't stand in their crate: a type, a function, or a call of a type."""
+    """Those of docs/names that don't stand in their crate: a type, a function, or a call of a type; and crates that aren't there."""
     for line in (text or (TOP / "docs" / "names").read_text(encoding="utf-8")).splitlines():
         crate, colon, names = line.partition(":")
-        code = "\n".join(it.read_text(encoding="utf-8") for it in crates.named(crate).files("src")) if colon and not line.startswith("#") else ""
-        for name in names.split() if code else ():
+        if not colon or line.startswith("#"):
+            continue
+        if crate not in crates.listed():
+            yield f"docs/names: there is no crate {crate}"
+            continue
+        code = "\n".join(it.read_text(encoding="utf-8") for it in crates.named(crate).files("src"))
+        for name in names.split():
             of, _, call = name.rpartition("::")
             item = rf"(?:impl|trait)\b[^{{;]*\b{of}\b.*?\bfn {call}\b" if of else rf"\bpub (?:fn|struct|enum|trait) {name}\b"
             if not re.search(item, code, re.DOTALL):
@@ -576,11 +581,16 @@ def headings(text):
     return {slug(it) for it in re.findall(r"(?m)^#+ (.*)$", re.sub(r"(?ms)^```.*?^```$", "", text))}
 
 
-def broken_links(document, text):
+def links_of(text):
+    """Yields the links of a page to files and sections, each with its file and its section, which may be empty."""
     for target in re.findall(r"\]\(([^)\s]+)\)", re.sub(r"(?ms)^```.*?^```$", "", text)):
-        if re.match(r"\w+:", target):
-            continue
-        file, _, anchor = target.partition("#")
+        if not re.match(r"\w+:", target):
+            file, _, anchor = target.partition("#")
+            yield target, file, anchor
+
+
+def broken_links(document, text):
+    for target, file, anchor in links_of(text):
         path = (TOP / document).parent / file if file else TOP / document
         if not path.exists() or (anchor and anchor not in headings(path.read_text(encoding="utf-8"))):
             yield target

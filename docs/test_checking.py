@@ -1,5 +1,5 @@
 #!/usr/bin/env python3
-"""Tests of docs/checking.py: each part takes what is right, and names what is stale."""
+"""Tests of docs/checking.py and docs/trees.py: each part takes what is right, and names what is stale."""
 import pathlib
 import sys
 import tempfile
@@ -9,6 +9,8 @@ from unittest import mock
 sys.dont_write_bytecode = True
 import checking
 import definitions
+import staging
+import trees
 
 
 class Commands(unittest.TestCase):
@@ -132,6 +134,7 @@ class Requirements(unittest.TestCase):
     def test_a_name_that_stays_stands_in_its_crate(self):
         self.assertEqual(list(checking.lost_names()), [])
         self.assertEqual(list(checking.lost_names("start_gap: Move Registers::place Registers::nothing")), ["docs/names: start_gap has no Registers::nothing"])
+        self.assertEqual(list(checking.lost_names("# a comment: none\nno_crate: Move\npcm_cli:")), ["docs/names: there is no crate no_crate"])
 
     def test_a_case_of_stored_input_is_a_test(self):
         self.assertTrue(checking.is_test("played_tests", "a_header_alone_gives_a_header_alone"))
@@ -190,6 +193,28 @@ class Links(unittest.TestCase):
                 good = "[a](one.md) [b](one.md#one-thing) [c](https://example.org/x)"
                 self.assertEqual(list(checking.broken_links("two.md", good)), [])
                 self.assertEqual(list(checking.broken_links("two.md", "[a](three.md) [b](one.md#two)")), ["three.md", "one.md#two"])
+
+
+class Installed(unittest.TestCase):
+    def test_what_is_installed_names_nothing_that_is_not(self):
+        self.assertEqual([it for it in trees.check_installed() if it], [])
+        text = checking.pages.USING.read_text(encoding="utf-8")
+        self.assertEqual([text.count(it) for it in staging.OF_A_CHECKOUT], [1] * len(staging.OF_A_CHECKOUT))
+        told = staging.using().decode()
+        self.assertIn("`pcm run --option value .. < trace.csv`", told)
+        self.assertIn("\n./pcm run < mine.csv\n", told)
+
+    def test_a_dead_link_is_found(self):
+        page = b"# One\n\n[a](../c) [b](b.md#two) [c](https://example.org/x)\n\n[d](#one) [e](gone.md) [f](b.md#gone) [g](#gone)\n"
+        tree = {"share/pcm/docs/a.md": page, "share/pcm/docs/b.md": b"# Two\n", "share/pcm/c/pcm.h": b""}
+        found = [it.split()[4] for it in trees.lost_links(tree)]
+        self.assertEqual(found, ["gone.md", "b.md#gone", "#gone"])
+
+    def test_what_stands_in_a_checkout_alone_is_found(self):
+        using = b"`./pcm map` of examples/a.csv and `examples/b`, by `tools/build library`.\n\n    ./pcm run\n\n```sh\n./pcm stream\n```\n"
+        tree = {"share/pcm/docs/USING.md": using, "share/man/man1/pcm.1": b"\\fBpcm examples/a.csv\\fR, examples/no\\-file", "share/pcm/examples/a.csv": b""}
+        found = [it.split()[-1] for it in trees.absent(tree)]
+        self.assertEqual(found, ["./pcm", "examples/b", "tools/build", "examples/no-file"])
 
 
 class Sections(unittest.TestCase):

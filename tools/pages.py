@@ -74,7 +74,7 @@ def page_of(name, about, synopsis, parts):
     return "\n".join(lines) + "\n"
 
 
-ABOUT = "simulates a phase-change memory module with its controller; each function of it is proved to meet its contract"
+ABOUT = "simulates a phase-change memory module with its controller, by programs that are proved to meet their contracts"
 ENVIRONMENT = [
     "- `PCM_EXPLAIN`: 1 says behind the program's line what is wrong with a word or a trace, 0 never does; else it is said on a terminal.",
     "- `PCM_PROGRESS`: 0 shows no progress of a stream on a terminal; `--progress` shows it elsewhere too.",

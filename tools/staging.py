@@ -3,7 +3,7 @@
     bin/pcm                     the wrapper, as ./pcm is
     libexec/pcm/                the programs
     share/pcm/                  README.md, docs/, examples/, c/ and python/pcm as in the repository, VERSION, and a link pcm to the wrapper: so links
-                                lead on, and in a copy of it each recipe works as it is written
+                                lead on, and in a copy of it each recipe works as it is written; sentences of USING.md name pcm, not ./pcm
     share/man/man1/             pcm.1, pcm-stream.1, pcm-explain.1, pcm-view.1, pcm-disk.1 and pcm-parts.1
     share/bash-completion/completions/pcm, share/zsh/site-functions/_pcm
     include/                    pcm_stream.h, pcm_disk.h and their like, for drivers in C and C++, and for SystemC
@@ -38,12 +38,29 @@ def readme():
     return re.sub(r"\[([^]]*)\]\((crates/[^)]*)\)", r"\1 (in the repository)", text).encode()
 
 
+# What USING.md says of a checkout, and what stands there in a tree.
+OF_A_CHECKOUT = {
+    "at the top of the repository": "in a copy of share/pcm (`pcm help` says how to make one)",
+    "`tools/build library` makes it; installed: ": "",
+    "; `pip install ./python` installs it": "",
+}
+
+
+def using():
+    """USING.md for whom there is no checkout: its blocks are for a copy of the tree, which has ./pcm, its sentences name pcm."""
+    text = pages.USING.read_text(encoding="utf-8")
+    for here, there in OF_A_CHECKOUT.items():
+        text = text.replace(here, there)
+    parts = re.split(r"(?ms)(^```.*?^```$|^    [^\n]*$)", text)
+    return "".join(part if at % 2 else part.replace("./pcm", "pcm") for at, part in enumerate(parts)).encode()
+
+
 def texts():
     """What a reader has: documents with their pictures, examples, and the drivers in C, without what was made there."""
     for folder, kinds in (("docs", {".md", ".svg", ".png", "names"}), ("examples", None), ("c", None)):
         for it in sorted((TOP / folder).rglob("*")):
             if it.is_file() and not {"out", "__pycache__"} & set(it.parts) and (kinds is None or (it.suffix or it.name) in kinds):
-                yield f"share/pcm/{it.relative_to(TOP)}", it, os.access(it, os.X_OK)
+                yield f"share/pcm/{it.relative_to(TOP)}", using() if it == pages.USING else it, os.access(it, os.X_OK)
 
 
 def build_firmware():

@@ -21,7 +21,6 @@ TOP = pathlib.Path(__file__).resolve().parent.parent
 sys.path.append(str(TOP / "bench"))
 import pages
 import refusing
-import staging
 
 # A check that refuses the word 'wrong', and a compiler that makes a static library of the kit's own text for one.
 RATTLE = """#!/bin/sh
@@ -639,15 +638,11 @@ class Installed(unittest.TestCase):
         for path in self.prefix.rglob("*"):
             self.assertTrue(path.is_symlink() or path.stat().st_mode & 0o444 == 0o444, path)
 
-    def test_what_is_installed_links_to_nothing_that_is_not(self):
-        tree = {path: source for path, source, _ in staging.files()}
-        for path, source in tree.items():
-            if path.endswith(".md"):
-                text = source.decode() if isinstance(source, bytes) else source.read_text(encoding="utf-8")
-                for target in re.findall(r"\]\(([^)#:]+)(?:#[^)]*)?\)", text):
-                    named = os.path.normpath(os.path.join(os.path.dirname(path), target))
-                    self.assertTrue(named in tree or any(it.startswith(f"{named}/") for it in tree), f"{path}: {target}")
+    def test_help_and_pages_name_pcm_as_it_is_installed(self):
         self.assertIn("share/pcm/docs/USING.md", self.pcm("help").stdout)
+        page = (self.prefix / "share" / "pcm" / "docs" / "USING.md").read_text(encoding="utf-8")
+        self.assertIn("in a copy of share/pcm", page)
+        self.assertNotIn("tools/build", page)
         told = [self.pcm("help", it).stdout for it in ("run", "stream", "check", "explain", "view", "disk", "parts")]
         self.assertEqual([it.count("./pcm") for it in told], [0] * len(told))
         self.assertIn("usage: python3 -m pcm parts [TRACE]", told[-1])
