@@ -34,7 +34,7 @@ pub enum Held {
 fn narrow(alloc: Global, chosen: &Chosen) -> Result<NarrowSession, AllocError>
     requires { IsWear chosen.now.wear }
     ensures { IfOk result (λ session.
-        Begins seeded_state chosen.now.shape chosen.now.wear.seed session) }
+        Begins seeded_state chosen.now.shape chosen.now.wear session) }
 {
     let array = MemArray::without_energy();
     Session::new(alloc, chosen.shape, chosen.wear.seed, chosen.wear, array)
@@ -43,7 +43,7 @@ fn narrow(alloc: Global, chosen: &Chosen) -> Result<NarrowSession, AllocError>
 fn wide(alloc: Global, chosen: &Chosen) -> Result<WideSession, AllocError>
     requires { IsWear chosen.now.wear }
     ensures { IfOk result (λ session.
-        Begins seeded_state chosen.now.shape chosen.now.wear.seed session) }
+        Begins seeded_state chosen.now.shape chosen.now.wear session) }
 {
     let array = MemArray::without_energy();
     Session::new(alloc, chosen.shape, chosen.wear.seed, chosen.wear, array)
@@ -54,7 +54,7 @@ impl Held {
     pub(crate) fn new(alloc: Global, chosen: &Chosen) -> Result<Held, AllocError>
         requires { IsWear chosen.now.wear }
         ensures { IfOk result (λ held.
-            BeginsWith chosen.now.is_wide chosen.now.shape chosen.now.wear.seed held) }
+            BeginsWith chosen.now.is_wide chosen.now.shape chosen.now.wear held) }
     {
         if chosen.is_wide {
             return Ok(Held::Wide(wide(alloc, chosen)?));

@@ -57,7 +57,7 @@ fn opened(alloc: Global, options: &ModuleOptions) -> Result<Box<Held>, Status>
 fn boxed(alloc: Global, chosen: &Chosen) -> Result<Box<Held>, Status>
     requires { IsWear chosen.now.wear }
     ensures held { IfOk result (λ held.
-        BeginsWith chosen.now.is_wide chosen.now.shape chosen.now.wear.seed held.value) }
+        BeginsWith chosen.now.is_wide chosen.now.shape chosen.now.wear held.value) }
     ensures refused { IfErr result (λ status. status ≢ Status.Done) }
 {
     match Held::new(alloc, chosen) {
