@@ -48,7 +48,7 @@ def drawn_call(draw, module, lines, size, step=60):
         return "cut", tick
     if kind < 0.84 and module._rows:
         return "settle_until", draw.randrange(module._rows) + 1, tick + 200
-    return ("settle" if kind < 0.95 else "banks"), tick
+    return ("settle" if kind < 0.92 else "wear" if kind < 0.95 else "banks"), tick
 
 
 def answer(module, name, *arguments):
@@ -176,7 +176,6 @@ class Ways(unittest.TestCase):
             pcm.Module(way="library", copies=True)
         with pcm.Module(way="library") as module:
             module.read(7, 0)
-            self.assertRaisesRegex(ValueError, "the library doesn't tell how worn", module.wear)
             self.assertRaisesRegex(ValueError, "without copies=True", module.copy)
             self.assertEqual((2, [1, 2]), (module.read(7, 1), [it.row for it in module.settle(100)]))
 
@@ -192,9 +191,19 @@ class Ways(unittest.TestCase):
         with mock.patch.dict(os.environ, {**kept, **environment}, clear=True), pcm.Module(**options) as module:
             return {Linked: "library", Streamed: "program"}[type(module._way)]
 
+    def test_the_library_is_taken_where_it_can_be(self):
+        self.assertEqual("library", self.way({}))
+        self.assertEqual("library", self.way({}, tell="shape", policy="cancel", end="drain", seed=None))
+        self.assertEqual("program", self.way({"PCM_WAY": "program"}))
+        for options in ({"end": "off"}, {"until": "refused"}, {"input": "drawn", "rows": 5}):
+            self.assertEqual("program", self.way({}, **options))
+        with mock.patch("pcm.linked.library", return_value=None):
+            self.assertEqual("program", self.way({}))
+        with self.assertRaises(pcm.UsageError):
+            self.way({}, polcy="pause")
+
     def test_the_library_is_taken_where_it_is_asked_for(self):
         program = pcm.program()
-        self.assertEqual("program", self.way({}))
         self.assertEqual("program", self.way({"PCM": program[0]}))
         self.assertEqual("program", self.way({}, program=program))
         self.assertEqual("library", self.way({"PCM_WAY": "library"}))

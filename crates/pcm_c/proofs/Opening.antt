@@ -16,9 +16,9 @@ shape-asked shape raw None is = ap (shape-in raw) is
 shape-asked shape raw (Some field) is = ap (shape-in raw) is
 
 -- what begins as it was chosen by options was opened by them
-pub opens : (o : ModuleOptions) (chosen : Chosen) (held : Held) → IsChosen o chosen → BeginsWith chosen.is_wide chosen.shape chosen.wear.seed held → OpensAt o (Some held)
+pub opens : (o : ModuleOptions) (chosen : Chosen) (held : Held) → IsChosen o chosen → BeginsWith chosen.is_wide chosen.shape chosen.wear held → OpensAt o (Some held)
 opens o chosen held is begins =
     let right = is.right in
-    let sized = subst (λ (is_wide : Bool). BeginsWith is_wide chosen.shape chosen.wear.seed held) is.wide begins in
-    let shaped = subst (λ (raw : RawShape). BeginsWith right.is_wide raw chosen.wear.seed held) is.shape sized in
-    (right, subst (λ (wear : Wear). BeginsWith right.is_wide (raw_of o right.policy right.home) wear.seed held) is.wear shaped)
+    let sized = subst (λ (is_wide : Bool). BeginsWith is_wide chosen.shape chosen.wear held) is.wide begins in
+    let shaped = subst (λ (raw : RawShape). BeginsWith right.is_wide raw chosen.wear held) is.shape sized in
+    (right, subst (λ (wear : Wear). BeginsWith right.is_wide (raw_of o right.policy right.home) wear held) is.wear shaped)

@@ -1,7 +1,7 @@
 -- What calls do to the module that stands behind a handle.
-use Rattle.std.specs.Prelude.{◌≡◌, ℕ, false, true, [], ◌∷◌, ◌++◌, length, option_to_list, Option, Some, None}
-use Rattle.cell_rows.specs.Device.{ArrayState}
-use Rattle.module_shape.specs.{Limits.total_of, declared.raw.RawShape.RawShape}
+use Rattle.std.specs.Prelude.{◌≡◌, ℕ, ◌*◌, false, true, [], ◌∷◌, ◌++◌, IfNone, length, option_to_list, Option, Some, None}
+use Rattle.cell_rows.specs.{Device.{ArrayState, IsFresh}, declared.array.Wear.Wear}
+use Rattle.module_shape.specs.{Addresses.{array_lines_of, module_of}, Limits.total_of, declared.raw.RawShape.RawShape}
 use Rattle.pcm_cells.specs.Seeded.{seeded_state}
 use Rattle.trace_stream.specs.declared.asked.Asked.{Asked}
 use Rattle.row_stream.specs.{Ending.{IsLeft, told_along}, Serving.{ServesOn, told_so_far}}
@@ -9,10 +9,13 @@ use Rattle.pcm_library.specs.{Serving.{HasServedRows, Serving}, declared.keeper.
 use Rattle.pcm_c.specs.{declared.held.Held.Held, declared.held.Held.TheVariants.{Narrow, Wide}}
 
 module _ {n m e : ℕ} {S : Type 0} (state : S → ArrayState n m) where
-  -- a session of these sizes and this seed, of which nothing was asked so far
-  pub record Begins (raw : RawShape) (drawn : ℕ) (new : Serving n m e S) : Type 0 where
+  -- a session of these sizes over a fresh array that wears so, by whose seed its lines are spread, and of which nothing was asked so far
+  pub record Begins (raw : RawShape) (wear : Wear) (new : Serving n m e S) : Type 0 where
     pub shape : new.module_.shape ≡ raw
-    pub seed : new.module_.seed ≡ drawn
+    pub seed : new.module_.seed ≡ wear.seed
+    pub fresh : IsFresh (raw.banks * array_lines_of (module_of raw)) wear (state new.array)
+    pub tick : new.module_.tick ≡ 0
+    pub rows : new.kept.rows ≡ 0
     pub going : new.module_.finished ≡ false
     pub asked : new.asked ≡ []
     pub taken : new.kept.sink.taken ≡ []
@@ -24,7 +27,7 @@ module _ {n m e : ℕ} {S : Type 0} (state : S → ArrayState n m) where
     pub serves : ServesOn (λ before. row) old.module_ new.module_ (state old.array) (state new.array) old.kept new.kept
     pub taken : new.kept.sink.taken ≡ old.kept.sink.taken
 
-  -- its banks drain behind all that was asked; nothing is taken
+  -- its banks drain behind all that was asked; nothing is taken, and cells wear as before
   pub record Finishes (old new : Serving n m e S) : Type 0 where
     pub finished : new.module_.finished ≡ true
     pub asked : new.asked ≡ old.asked
@@ -33,15 +36,19 @@ module _ {n m e : ℕ} {S : Type 0} (state : S → ArrayState n m) where
         → (left : IsLeft old.module_.shape old.module_.seed false old.asked new.module_ (state new.array) new.kept.rows new.kept.told new.kept.prints new.kept.snapshots)
         × (told_along left.0 ≡ told_so_far had)
     pub taken : new.kept.sink.taken ≡ old.kept.sink.taken
+    pub wear : (state new.array).wear ≡ (state old.array).wear
 
--- the first outcome that waits is taken, or none, and all else stays
+-- the first outcome that waits is taken, or none where none waits, and all else stays
 pub record Hands {n m e : ℕ} {S : Type 0} (first : Option (Kept n)) (old new : Serving n m e S) : Type 0 where
   pub waiting : old.kept.sink.waiting ≡ option_to_list first ++ new.kept.sink.waiting
+  pub none : IfNone first (old.kept.sink.waiting ≡ [])
   pub taken : new.kept.sink.taken ≡ old.kept.sink.taken ++ option_to_list first
   pub module_ : new.module_ ≡ old.module_
   pub array : new.array ≡ old.array
   pub asked : new.asked ≡ old.asked
   pub told : new.kept.told ≡ old.kept.told
+  pub snapshots : new.kept.snapshots ≡ old.kept.snapshots
+  pub prints : new.kept.prints ≡ old.kept.prints
   pub rows : new.kept.rows ≡ old.kept.rows
   pub off : new.off ≡ old.off
 

@@ -51,12 +51,12 @@ pub record IsChosen (o : ModuleOptions) (chosen : Chosen) : Type 0 where
   pub wear : chosen.wear ≡ wear_of o
   pub wide : chosen.is_wide ≡ right.is_wide
 
--- a module with short lines or long ones, of these sizes, begins
-abbrev pub BeginsWith : Bool → RawShape → (seed : ℕ) → Held → Type 0
-BeginsWith is_wide raw seed (Narrow new) = (is_wide ≡ false) × Begins seeded_state raw seed new
-BeginsWith is_wide raw seed (Wide new) = (is_wide ≡ true) × Begins seeded_state raw seed new
+-- a module with short lines or long ones, of these sizes, whose cells wear so, begins
+abbrev pub BeginsWith : Bool → RawShape → Wear → Held → Type 0
+BeginsWith is_wide raw wear (Narrow new) = (is_wide ≡ false) × Begins seeded_state raw wear new
+BeginsWith is_wide raw wear (Wide new) = (is_wide ≡ true) × Begins seeded_state raw wear new
 
 -- the module that was opened by these options
 abbrev pub OpensAt : ModuleOptions → Option Held → Type 0
-OpensAt o (Some new) = (right : AreRight o) × BeginsWith right.is_wide (raw_of o right.policy right.home) o.seed new
+OpensAt o (Some new) = (right : AreRight o) × BeginsWith right.is_wide (raw_of o right.policy right.home) (wear_of o) new
 OpensAt o None = ⊥

@@ -7,4 +7,5 @@ returns-clause-done g c = λ done. let is = c.told.ensures.done done in let e = 
   off = e.off is;
   ended = e.ended is;
   taken = e.taken;
+  wear = e.wear;
 }
