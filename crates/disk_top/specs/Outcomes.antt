@@ -1,6 +1,6 @@
 -- How a call of the program ends: its status, and a line for the user.
 use Rattle.std.specs.Prelude.{◌≡◌, ◌≢◌, ℕ, List, codes, Option, Some, None}
-use Rattle.program_calls.specs.Calls.{Gets, GetsPart, IsUntouched, Lent, SinkChange, SinkFails}
+use Rattle.program_calls.specs.Calls.{Gets, GetsPart, IsTried, IsUntouched, Lent, SinkChange, SinkFails}
 use Rattle.disk_server.specs.declared.phase.Ended.{Ended}
 use Rattle.disk_server.specs.declared.phase.Ended.TheVariants as by
 use Rattle.disk_top.specs.{declared.outcome.Fault.Fault, declared.outcome.Fault.TheVariants.{Usage, CutOff, NoMessage, Read, Write, TooLong, NoMemory}}
@@ -47,6 +47,7 @@ fault_in ends.NoMemory = Some NoMemory
 pub record IsToldOf (fault : Fault) (err : SinkChange) (status : ℕ) : Type 0 where
   pub told : status ≢ status_of Write → (status ≡ status_of fault) × Gets err (fault_line fault)
   pub part : GetsPart err (fault_line fault)
+  pub tried : IsTried err (fault_line fault)
   pub broken : status ≡ status_of Write → fault ≢ Write → SinkFails err
 
 -- what is said of an end: status 0, and nothing more, where the work is done

@@ -1,9 +1,9 @@
 -- How the parts of a call end.
 use Rattle.std.specs.Prelude.{◌≡◌, ◌≢◌, ◌≤◌, ℕ, false, Result}
 use Rattle.explain_words.specs.declared.job.ExplainJob.{ExplainJob}
-use Rattle.program_calls.specs.Calls.{Gets, GetsPart, IsUntouched, Lent, SinkChange, SinkFails, SourceChange}
+use Rattle.program_calls.specs.Calls.{Gets, GetsPart, IsTried, IsUntouched, Lent, SinkChange, SinkFails, SourceChange}
 use Rattle.pcm_top.specs.{Checking.{IsCheckFault, room_line}, Ends.{Ends as EndsBy, Reads}, FaultLines.status_of, Reading.trace_room}
-use Rattle.pcm_top.specs.{Running.{HasCause, IsTried, reads_source, room_of}, declared.fault.Fault.Fault, declared.fault.Fault.TheVariants.{Usage, Write, NoMemory}}
+use Rattle.pcm_top.specs.{Running.{HasCause, reads_source, room_of}, declared.fault.Fault.Fault, declared.fault.Fault.TheVariants.{Usage, Write, NoMemory}}
 use Rattle.pcm_top.specs.declared.run.Done.{Done}
 use Rattle.explain_top.specs.{Calls.{Call, as_check}, Explaining.{Does, DoesPart, TellsExplanation, TellsExplanationInPart}, FaultLines.fault_line}
 

@@ -1,8 +1,8 @@
 -- What every call of the program promises.
 use Rattle.std.specs.Prelude.{◌≡◌, ◌≢◌, ◌⊎◌, ◌≤◌, ℕ, List, true, false, Some, Err}
 use Rattle.command_line.specs.declared.job.Refusal.TheVariants as refusal
-use Rattle.program_calls.specs.Calls.{Gets, GetsPart, IsUntouched, Lent, SinkChange, SinkFails}
-use Rattle.pcm_top.specs.{FaultLines.status_of, Reading.{OnOverflow, SourceFails}, Running.{HasCause, IsTried, reads_source, room_of, status_done}, Statuses.IsStatusFor}
+use Rattle.program_calls.specs.Calls.{Gets, GetsPart, IsTried, IsUntouched, Lent, SinkChange, SinkFails}
+use Rattle.pcm_top.specs.{FaultLines.status_of, Reading.{OnOverflow, SourceFails}, Running.{HasCause, reads_source, room_of, status_done}, Statuses.IsStatusFor}
 use Rattle.pcm_top.specs.{declared.fault.Fault.Fault, declared.fault.Fault.TheVariants.{Usage, Write, TooLong, NoMemory}, declared.run.Done.Done}
 use Rattle.pcm_top.specs.declared.run.Done.TheVariants.{Whole, Short}
 use Rattle.explain_top.specs.{Calls.{Call, as_check, is_strict}, Explaining.{Does, DoesPart}, FaultLines.fault_line}

@@ -5,10 +5,10 @@ use Rattle.trace_reader.specs.declared.event.Event.{Event}
 use Rattle.pcm_io.specs.declared.WriteFault.{WriteFault}
 use Rattle.command_line.specs.{declared.job.CheckJob.CheckJob, declared.job.LineSize.TheVariants.{Bytes64, Bytes128}, declared.job.RunJob.RunJob}
 use Rattle.pcm_image.specs.declared.ImageFault.{ImageFault}
-use Rattle.program_calls.specs.Calls.{Gets, GetsPart, IsUntouched, Lent, SinkChange, SinkFails, SourceChange}
+use Rattle.program_calls.specs.Calls.{Gets, GetsPart, IsTried, IsUntouched, Lent, SinkChange, SinkFails, SourceChange}
 use Rattle.pcm_top.specs.{Calls.{AreArraysUntouched, Call, deed_of}, Checking.{IsCheckFault, TellsVerdict, TellsVerdictInPart, room_line}, FaultLines.{fault_line, status_of}}
 use Rattle.pcm_top.specs.{Inputs.{ComeFrom, IsFaultOf, is_source}, Reading.{NeverFails, OnOverflow, trace_room}}
-use Rattle.pcm_top.specs.Running.{Does, DoesPart, HasCause, IsTried, RunIsWritten, RunIsWrittenInPart, reads_source, room_of, runs_on}
+use Rattle.pcm_top.specs.Running.{Does, DoesPart, HasCause, RunIsWritten, RunIsWrittenInPart, reads_source, room_of, runs_on}
 use Rattle.pcm_top.specs.{Showing.{IsImageFault, IsShowFault, ShowsImage, ShowsImageInPart, ShowsText, ShowsTextInPart}, declared.fault.Fault.Fault}
 use Rattle.pcm_top.specs.{declared.fault.Fault.TheVariants.{Write, TooLong, NoMemory, Usage}, declared.run.Done.Done}
 

@@ -2,9 +2,9 @@
 use Rattle.std.specs.Prelude.{◌≡◌, ◌≢◌, ◌⊎◌, ◌≤◌, ℕ, List, true, false, Some, Err}
 use Rattle.command_line.specs.declared.job.LineSize.TheVariants.{Bytes64, Bytes128}
 use Rattle.command_line.specs.declared.job.Refusal.TheVariants as refusal
-use Rattle.program_calls.specs.Calls.{IsUntouched, Lent, SinkChange, SinkFails}
+use Rattle.program_calls.specs.Calls.{IsTried, IsUntouched, Lent, SinkChange, SinkFails}
 use Rattle.pcm_top.specs.{Calls.{AreArraysUntouched, Call, deed_of}, FaultLines.{fault_line, status_of}, Reading.{OnOverflow, SourceFails}}
-use Rattle.pcm_top.specs.{Running.{Does, DoesPart, IsTried, Tells, TellsPart, reads_source, room_of, runs_on, status_done}, Statuses.IsStatusFor}
+use Rattle.pcm_top.specs.{Running.{Does, DoesPart, Tells, TellsPart, reads_source, room_of, runs_on, status_done}, Statuses.IsStatusFor}
 use Rattle.pcm_top.specs.{declared.fault.Fault.TheVariants.{Usage, Write, TooLong, NoMemory}, declared.run.Done.Done, declared.run.Done.TheVariants.Short}
 
 -- of a call, the place where faults are told, and the status that was answered

@@ -18,7 +18,7 @@ use Rattle.pcm_top.specs.{Calls.Deed, Checking.{IsCheckFault, TellsVerdict, Tell
 use Rattle.pcm_top.specs.{Inputs.{ComeFrom, IsFaultOf, is_source}, Jobs.{bytes_in, gen_text, map_options}, Reading.trace_room, Rows.rows_of, RunText.IsRunText}
 use Rattle.pcm_top.specs.{Showing.{IsShowFault, ShowsImage, ShowsImageInPart}, declared.fault.Fault.Fault, declared.fault.Fault.TheVariants.{Usage, NoMemory}}
 use Rattle.pcm_top.specs.{declared.run.Done.Done, declared.run.Done.TheVariants.{Whole, Short}}
-use Rattle.program_calls.specs.Calls.{Gets, GetsPart, SinkChange, SinkFails, SourceChange}
+use Rattle.program_calls.specs.Calls.{Gets, GetsPart, SinkChange, SourceChange}
 use Rattle.module_prints.specs.Images.{WritesRows}
 
 -- how a run was done, by the outcomes of its rows, and the status for that
@@ -177,7 +177,3 @@ pub record TellsPart (asked : Result Job Refusal) (s : SourceChange) (err : Sink
   pub fault : Fault
   pub cause : HasCause fault asked s
   pub part : GetsPart err (fault_line fault)
-
--- a line was tried: all of it was written, or first bytes of it and then a fault came
-abbrev pub IsTried : SinkChange → List ℕ → Type 0
-IsTried err line = Gets err line ⊎ (GetsPart err line × SinkFails err)

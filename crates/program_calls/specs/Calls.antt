@@ -1,5 +1,5 @@
 -- What a call of a program was given, and what it left.
-use Rattle.std.specs.{Io.KnownBytes.Appends, Prelude.{◌≡◌, ◌≤◌, ℕ, List, Option, Result, OnOk, OnErr}}
+use Rattle.std.specs.{Io.KnownBytes.Appends, Prelude.{◌≡◌, ◌⊎◌, ◌≤◌, ℕ, List, Option, Result, OnOk, OnErr}}
 use Rattle.pcm_io.specs.{Faults.Rose, Giving.AppendsPrefix}
 use Rattle.cell_rows.specs.Device.{ArrayState}
 
@@ -29,6 +29,10 @@ GetsPart s text = AppendsPrefix s.written_before s.written_now text
 -- a sink's count of faults rose
 abbrev pub SinkFails : SinkChange → Type 0
 SinkFails s = Rose s.faults_before s.faults_now
+
+-- a line was tried: all of it was written, or first bytes of it and then a fault came
+abbrev pub IsTried : SinkChange → List ℕ → Type 0
+IsTried err line = Gets err line ⊎ (GetsPart err line × SinkFails err)
 
 -- how a text is written: exactly it, or first bytes of it where the sink fails
 pub record Writes {T E : Type 0} (text : List ℕ) (sink : SinkChange) (result : Result T E) : Type 0 where

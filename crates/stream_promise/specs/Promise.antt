@@ -14,7 +14,7 @@ use Rattle.image_text.specs.Sensing.{SensesRows}
 use Rattle.bank_timing.specs.Extending.{outcome_in}
 use Rattle.pcm_module.specs.Roles.{spares_used}
 use Rattle.module_prints.specs.WearReports.{cells_at}
-use Rattle.program_calls.specs.Calls.{Gets, GetsPart, IsUntouched, Lent, SinkChange, SinkFails}
+use Rattle.program_calls.specs.Calls.{Gets, GetsPart, IsTried, IsUntouched, Lent, SinkChange, SinkFails}
 use Rattle.run_text.specs.{Counting.counts_of, Pulses.pulses_in_all, SummaryText.summary_text}
 use Rattle.row_printer.specs.{Printing.{stream_text, table_of}, Snapshots.{AddsDue, takes_snapshots}, Telling.{became, outcomes_in, TellsOnce}, declared.snapshot.Snapshot.Snapshot}
 use Rattle.row_printer.specs.declared.told.Told.{Told}
@@ -208,9 +208,9 @@ module _ {A V S K : Type 0} (call : Call A V S K) where
       -- It is another, but for 5: the stream stopped at a fault that has its cause, exactly what was known by then was written, and the fault is told.
       pub told : status_of Usage ≤ status → status ≢ status_of Write
           → (fault : Fault) × StopByRows call.asked fault × (status ≡ status_of fault) × Gets err.seen (fault_line fault)
-      -- It is 5: the output failed, and first bytes of what was told were written; or a fault couldn't be told whole.
+      -- It is 5: the output failed, first bytes of what was told were written, and the fault's line was tried; or a fault couldn't be told whole.
       pub broken : status ≡ status_of Write
-          → (BreakByRows call.asked × GetsPart err.seen (fault_line Write)) ⊎ ((fault : Fault) × StopByRows call.asked fault × GetsPart err.seen (fault_line fault) × SinkFails err.seen)
+          → (BreakByRows call.asked × IsTried err.seen (fault_line Write)) ⊎ ((fault : Fault) × StopByRows call.asked fault × GetsPart err.seen (fault_line fault) × SinkFails err.seen)
       -- A source is left alone where the rows are drawn, and so is the array of the other size of line.
       pub unread : IsUnread call call.asked
       pub others : OthersUntouched call call.asked

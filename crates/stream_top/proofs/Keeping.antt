@@ -14,7 +14,7 @@ use Rattle.image_text.{specs.Sensing.SensesRows, proofs.Sensing.senses-none}
 use Rattle.pcm_module.specs.{Roles.spares_used, State.ModuleState}
 use Rattle.large_prints.specs.Rows.{large_to}
 use Rattle.module_prints.{specs.Images.kept_in, specs.StandingMap.standing_map, specs.WearReports.{HaveRoles, IsWearReport, cells_at}, proofs.Wearing.{worn-goes_on, worn-none}}
-use Rattle.program_calls.specs.Calls.{GetsPart, IsUntouched, Lent, SinkChange, SinkFails}
+use Rattle.program_calls.specs.Calls.{IsTried, IsUntouched, Lent, SinkChange, SinkFails}
 use Rattle.row_printer.specs.{Printing.{stream_text, table_of}, Telling.{outcomes_in, TellsOnce}, declared.snapshot.Snapshot.Snapshot, declared.told.Shown.Shown}
 use Rattle.row_printer.specs.declared.told.Told.{Told}
 use Rattle.row_stream.specs.{Asking.{stays_off, with_cut}, Ending.SnapsAll, Laws.EachToldLaw, Serving.{HasServed, IsServing, SnapsAlong, told_so_far}}
@@ -313,7 +313,7 @@ keeps call err status (Err fault) ends said =
           let t = said.fault.told other in
           (fault, ends.cause (λ is. other (t.0 ∙ ap status_of is)), t.0, t.1);
       broken = λ five. elim (is_write fault) [
-        | inl is ↦ inl (ends.write (ap Err is), subst (λ (f : Fault). GetsPart err.seen (fault_line f)) is said.fault.part)
+        | inl is ↦ inl (ends.write (ap Err is), subst (λ (f : Fault). IsTried err.seen (fault_line f)) is said.fault.tried)
         | inr other ↦ inr (fault, ends.cause other, said.fault.part, said.fault.broken five other)
       ];
       unread = ends.unread;

@@ -3,7 +3,7 @@ use Rattle.std.specs.Prelude.{◌≡◌, ◌≢◌, ◌⊎◌, ℕ, ◌≤◌, f
 use Rattle.command_line.specs.{declared.job.LineSize.LineSize, declared.job.LineSize.TheVariants.{Bytes64, Bytes128}, declared.job.Refusal.Refusal}
 use Rattle.command_line.specs.declared.job.Refusal.TheVariants as refusal
 use Rattle.stream_words.specs.declared.job.StreamJob.{StreamJob}
-use Rattle.program_calls.specs.Calls.{Gets, GetsPart, IsUntouched, Lent, SinkChange, SinkFails}
+use Rattle.program_calls.specs.Calls.{Gets, GetsPart, IsTried, IsUntouched, Lent, SinkChange, SinkFails}
 use Rattle.stream_top.specs.{Calls.{LentSource, TellingArray}, FaultLines.{fault_line, status_of}, Streams.{BreaksOff, Streams, StreamsUpTo, is_source, status_done}}
 use Rattle.stream_top.specs.{declared.done.Done.Done, declared.done.Done.TheVariants.Short, declared.fault.Fault.Fault, declared.fault.Fault.TheVariants.{Usage, Write, NoMemory}}
 
@@ -15,6 +15,7 @@ IsRefused asked fault = (fault ≡ NoMemory) ⊎ ((fault ≡ Usage) × (asked �
 pub record IsToldOf (fault : Fault) (err : SinkChange) (status : ℕ) : Type 0 where
   pub told : status ≢ status_of Write → (status ≡ status_of fault) × Gets err (fault_line fault)
   pub part : GetsPart err (fault_line fault)
+  pub tried : IsTried err (fault_line fault)
   pub broken : status ≡ status_of Write → fault ≢ Write → SinkFails err
   pub least : status_of Usage ≤ status
 
@@ -94,9 +95,9 @@ module _ {A V S K : Type 0} (call : Call A V S K) where
       -- It is another, but for 5: the stream stopped at a fault that has its cause, exactly what was known by then was written, and the fault is told.
       pub told : status_of Usage ≤ status → status ≢ status_of Write
           → (fault : Fault) × Stops call.asked fault × (status ≡ status_of fault) × Gets err.seen (fault_line fault)
-      -- It is 5: the output failed, and first bytes of what was told were written; or a fault couldn't be told whole.
+      -- It is 5: the output failed, first bytes of what was told were written, and the fault's line was tried; or a fault couldn't be told whole.
       pub broken : status ≡ status_of Write
-          → (Breaks call.asked × GetsPart err.seen (fault_line Write)) ⊎ ((fault : Fault) × Stops call.asked fault × GetsPart err.seen (fault_line fault) × SinkFails err.seen)
+          → (Breaks call.asked × IsTried err.seen (fault_line Write)) ⊎ ((fault : Fault) × Stops call.asked fault × GetsPart err.seen (fault_line fault) × SinkFails err.seen)
       -- A source is left alone where the rows are drawn, and so is the array of the other size of line.
       pub unread : IsUnread call.asked
       pub others : OthersUntouched call.asked

@@ -1,7 +1,7 @@
 -- What every call of the program promises.
 use Rattle.std.specs.Prelude.{◌≡◌, ◌≢◌, ◌⊎◌, ◌≤◌, ℕ, List, [], Result, Err}
-use Rattle.program_calls.specs.Calls.{Gets, GetsPart, IsUntouched, Lent, SinkChange, SinkFails, SourceChange}
-use Rattle.pcm_top.specs.{Ends.{Ends, Reads}, FaultLines.status_of, Reading.{OnOverflow, trace_room}, Running.{IsTried, status_done}, declared.fault.Fault.Fault}
+use Rattle.program_calls.specs.Calls.{Gets, GetsPart, IsTried, IsUntouched, Lent, SinkChange, SinkFails, SourceChange}
+use Rattle.pcm_top.specs.{Ends.{Ends, Reads}, FaultLines.status_of, Reading.{OnOverflow, trace_room}, Running.status_done, declared.fault.Fault.Fault}
 use Rattle.pcm_top.specs.{declared.fault.Fault.TheVariants.{Usage, Write, TooLong, NoMemory}, declared.run.Done.TheVariants.Whole}
 use Rattle.view_top.specs.{FaultLines.fault_line, Showing.{IsShowFault, ShowsImage, ShowsImageInPart, room_line}}
 
