@@ -5,7 +5,7 @@ use Rattle.command_line.specs.{declared.job.LineSize.LineSize, declared.job.Line
 use Rattle.command_line.specs.declared.job.Refusal.TheVariants as refusal
 use Rattle.program_calls.specs.Calls.{Lent, SinkChange}
 use Rattle.disk_server.specs.declared.phase.Ended.{Ended}
-use Rattle.disk_words.specs.Jobs.DiskAsked
+use Rattle.disk_words.specs.Jobs.{DiskAsked}
 use Rattle.disk_top.specs.{Outcomes.{IsStatusOf, fault_in}, Serving.{HasServed, Shown}, declared.outcome.Outcome.Outcome}
 use Rattle.disk_top.specs.{declared.outcome.Outcome.TheVariants.{Served, Usage, NoMemory}, declared.program.Remains.Remains, declared.program.Remains.TheVariants.{Narrow, Wide}}
 

@@ -5,7 +5,7 @@ use Rattle.module_shape.specs.Addresses.{array_lines_of, module_of}
 use Rattle.disk_lines.specs.{Asking.HasHeard, Cutting.{CutsCome, come_from}, Lines.OnModule}
 use Rattle.disk_promise.specs.{Clients.{made_on, stops_on}, Keeping.IsDiskKept}
 use Rattle.disk_server.specs.{Messages.asked, Sessions.{IsSession, Seen}, declared.phase.Ended.Ended}
-use Rattle.disk_words.specs.Jobs.DiskAsked
+use Rattle.disk_words.specs.Jobs.{DiskAsked}
 
 -- what is seen of a client's source and sink
 pub record Shown : Type 0 where
