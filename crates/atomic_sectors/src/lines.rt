@@ -21,6 +21,7 @@ pub trait Lines<const B: usize> {
 
     // What lines these are: no call changes it.
     ghost Kind: { Type 0 };
+
     ghost kind: { Self → Self.Kind };
 
     // How many lines those of a kind are.
