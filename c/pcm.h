@@ -16,10 +16,10 @@
    wait until they are taken: nothing is called back. Memory comes from malloc: as the module is opened, for all that it will ever hold, but for
    outcomes that wait while more rows come. Each call that may be refused answers a status; but for PCM_MODULE_OK it has changed nothing.
 
-   What a call that is done does to the module is proved, for all arguments; which refusal comes when is tested. What C can break is what C always
-   can: a pointer that isn't valid (so NULL), or not to as many bytes as are said; a struct pcm_module that is neither all zero nor as the last call
-   left it, so one that was written to, or a copy of one of which the other was closed; two threads in one module at once (two modules share nothing).
-   All else is looked at as it comes, and answered.
+   What a call does to the module, and which answer comes when, is proved, for all arguments; of pcm_module_open which refusal is tested. What C can
+   break is what C always can: a pointer that isn't valid (so NULL), or not to as many bytes as are said; a struct pcm_module that is neither all zero
+   nor as the last call left it, so one that was written to, or a copy of one of which the other was closed; two threads in one module at once (two
+   modules share nothing). All else is looked at as it comes, and answered.
 
    Names begin with pcm_module, so that pcm_stream.h, whose module is another process, may stand beside it. */
 #ifndef PCM_H
@@ -122,6 +122,17 @@ struct pcm_module_backlog {
     uint32_t mark;   /* enum pcm_module_mark */
 };
 
+/* How worn a module is: numbers over all its array lines, free spares too; each stays at the greatest uint64_t. */
+struct pcm_module_wear {
+    uint64_t pulses;   /* of all lines together */
+    uint64_t most;     /* of the line that has most */
+    uint64_t mean;     /* of a line, rounded down */
+    uint64_t pointers; /* the active ones, by the lines' own check cells */
+    uint64_t senses;   /* of all lines together */
+    uint64_t set;      /* how often a pulse drove a cell to 1 */
+    uint64_t reset;    /* and to 0 */
+};
+
 /* The first option found out of range, or PCM_MODULE_ALL_RIGHT. The options are only read. */
 uint32_t pcm_module_bad_option(const struct pcm_module_options *options);
 /* Opens a module that is closed. What it holds is freed by pcm_module_close alone. PCM_MODULE_OPEN, PCM_MODULE_OPTIONS, PCM_MODULE_NO_MEMORY. */
@@ -157,6 +168,9 @@ static inline size_t pcm_module_take(struct pcm_module *pcm, struct pcm_module_o
 }
 /* What waits in a bank, from 0. PCM_MODULE_NO_BANK, PCM_MODULE_CLOSED. */
 uint32_t pcm_module_bank(struct pcm_module *pcm, uint32_t bank, struct pcm_module_backlog *told);
+/* How worn the module is at the tick that was reached, behind pcm_module_finish too. It goes over all array lines: of a large module it takes time.
+   PCM_MODULE_CLOSED. */
+uint32_t pcm_module_look(struct pcm_module *pcm, struct pcm_module_wear *told);
 /* The tick that was reached, how many rows came (the number of the last one), how many lines the module has, how many outcomes wait; 0 of one
    that is closed. */
 uint64_t pcm_module_tick(struct pcm_module *pcm);

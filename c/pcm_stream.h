@@ -23,8 +23,8 @@
    With PCM_STREAM_LIBRARY defined before it is included, and pcm.h and pcm_stream_library.h beside it, the module is in the caller's own process, by
    the library (pcm.h): no program is started, and the words in front of the first option are passed over. Functions and answers are the same, but:
    a row is served as it is handed in, so what is wrong with it shows at once; options are those of a module, and of others only their defaults
-   (`--end drain`, `--until end`, `--input source`) and `--tell shape`: any other shows as one that the program refuses; pcm_look answers PCM_FAILED,
-   with ENOTSUP, and so do copies (pcm_copy.h); pcm_next, which would wait for ever where no outcome is to come, answers PCM_REFUSED; PCM_FULL comes
+   (`--end drain`, `--until end`, `--input source`) and `--tell shape`: any other shows as one that the program refuses; copies (pcm_copy.h) answer
+   PCM_FAILED, with ENOTSUP; pcm_next, which would wait for ever where no outcome is to come, answers PCM_REFUSED; PCM_FULL comes
    where PCM_MOST_SETTLES settles wait to be taken, and never else; memory is allocated; and nothing is left to send where pcm_close comes.
 
    A struct pcm is the caller's: it holds two descriptors, a process, and two buffers (some 80 KiB together), and must not be moved while it is

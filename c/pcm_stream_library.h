@@ -178,10 +178,6 @@ static inline enum pcm_result pcm__put(struct pcm *pcm, const struct pcm__row *r
         return PCM_ENDED;
     if (pcm__settles(row->op) && pcm->settles == PCM_MOST_SETTLES)
         return PCM_FULL;
-    if (row->op == 'L') {
-        errno = ENOTSUP;
-        return PCM_FAILED;
-    }
     uint32_t status = pcm__serve(pcm, row);
     if (status == PCM_MODULE_NO_MEMORY) {
         pcm->ends_with = 7;
@@ -204,7 +200,17 @@ static inline enum pcm_result pcm__await_shape(struct pcm *pcm)
     return PCM_OK;
 }
 
-/* The module has settled; what waits in its banks is put where it is asked for. */
+/* How worn the module is. */
+static inline void pcm__look(struct pcm *pcm, struct pcm_wear *wear)
+{
+    struct pcm_module_wear told;
+    if (pcm_module_look(&pcm->module, &told) == PCM_MODULE_OK) {
+        const struct pcm_wear it = {told.pulses, told.most, told.mean, told.pointers, told.senses, told.set, told.reset};
+        *wear = it;
+    }
+}
+
+/* The module has settled; what waits in its banks, and how worn it is, is put where it is asked for. */
 static inline void pcm__tell_settled(struct pcm *pcm, struct pcm_outcome *outcome, const struct pcm__asks *asks)
 {
     struct pcm_module_backlog told;
@@ -217,6 +223,8 @@ static inline void pcm__tell_settled(struct pcm *pcm, struct pcm_outcome *outcom
         const struct pcm_bank bank = {told.writes, told.reads, (enum pcm_mark)told.mark};
         asks->banks[i] = bank;
     }
+    if (asks != NULL && asks->wear != NULL && pcm->settles == 0)
+        pcm__look(pcm, asks->wear);
 }
 
 /* The next outcome. (None can come while nothing waits: where rows may come, that is refused.) */

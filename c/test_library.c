@@ -41,12 +41,14 @@ static void a_closed_module_answers(struct pcm_module *pcm)
 {
     struct pcm_module_outcome outcome = {99, 98, 97, 96, 0, {95}};
     struct pcm_module_backlog bank = {9, 8, 7};
+    struct pcm_module_wear wear = {9, 9, 9, 9, 9, 9, 9};
     uint8_t bytes[64] = {0};
     check(pcm_module_write(pcm, 0, 0, bytes, 64) == PCM_MODULE_CLOSED && pcm_module_read(pcm, 0, 0) == PCM_MODULE_CLOSED, "closed: rows");
     check(pcm_module_cut(pcm, 0) == PCM_MODULE_CLOSED && pcm_module_settle(pcm, 0) == PCM_MODULE_CLOSED, "closed: a cut, a settle");
     check(pcm_module_settle_until(pcm, 1, 0) == PCM_MODULE_CLOSED && pcm_module_finish(pcm) == PCM_MODULE_CLOSED, "closed: the end");
     check(pcm_module_next(pcm, &outcome) == PCM_MODULE_CLOSED && outcome.kind == 99 && outcome.bytes[0] == 95, "closed: no outcome");
     check(pcm_module_bank(pcm, 0, &bank) == PCM_MODULE_CLOSED && bank.writes == 9, "closed: no bank");
+    check(pcm_module_look(pcm, &wear) == PCM_MODULE_CLOSED && wear.pulses == 9, "closed: no wear");
     check(pcm_module_tick(pcm) == 0 && pcm_module_rows(pcm) == 0, "closed: no tick, no rows");
     check(pcm_module_lines(pcm) == 0 && pcm_module_waiting(pcm) == 0, "closed: no lines, nothing waits");
     pcm_module_close(pcm);
@@ -216,12 +218,32 @@ static void masked_writes_give_some_bytes(void)
     pcm_module_close(&pcm);
 }
 
+static void wear_is_told(void)
+{
+    struct pcm_module_options options = PCM_MODULE_DEFAULTS;
+    for (int i = 0; i < 2; i++) {
+        struct pcm_module_wear wear = {9, 9, 9, 9, 9, 9, 9};
+        uint8_t bytes[128];
+        options.line = i == 0 ? 64 : 128;
+        struct pcm_module pcm = opened(&options);
+        memset(bytes, 0xff, sizeof bytes);
+        check(pcm_module_look(&pcm, &wear) == PCM_MODULE_OK && wear.pulses + wear.most + wear.mean == 0, "of a new module nothing was pulsed");
+        check(wear.pointers + wear.senses + wear.set + wear.reset == 0, "nor sensed or driven");
+        check(pcm_module_write(&pcm, 0, 9, bytes, options.line) == PCM_MODULE_OK && pcm_module_finish(&pcm) == PCM_MODULE_OK, "a line is written");
+        check(pcm_module_look(&pcm, &wear) == PCM_MODULE_OK && wear.pulses == 1 && wear.most == 1 && wear.mean == 0, "by one pulse");
+        check(wear.set == 8 * options.line && wear.reset == 0 && wear.pointers == 0 && wear.senses > 0, "of all of its cells");
+        check(pcm_module_waiting(&pcm) == 1, "its outcome waits as before");
+        pcm_module_close(&pcm);
+    }
+}
+
 static void layouts_are_those_of_the_library(void)
 {
     check(sizeof(struct pcm_module) == 16 && offsetof(struct pcm_module, at) == 8, "a module");
     check(sizeof(struct pcm_module_options) == 72 && offsetof(struct pcm_module_options, seed) == 64, "options");
     check(sizeof(struct pcm_module_outcome) == 152 && offsetof(struct pcm_module_outcome, bytes) == 24, "an outcome");
     check(sizeof(struct pcm_module_backlog) == 12, "a bank");
+    check(sizeof(struct pcm_module_wear) == 56, "how worn it is");
     check((int)PCM_MODULE_CUT == (int)PCM_CUT && (int)PCM_MODULE_FULL_QUEUE == (int)PCM_FULL_QUEUE, "kinds are those of streams");
 }
 
@@ -235,5 +257,6 @@ int main(void)
     two_modules_share_nothing();
     long_lines_have_128_bytes();
     masked_writes_give_some_bytes();
+    wear_is_told();
     return checked();
 }

@@ -145,24 +145,6 @@ static void a_tick_that_was_not_asked_for(void)
     check(pcm_close(&pcm) == 0, "status 0");
 }
 
-static void wear_is_told(const char *const words[])
-{
-    static struct pcm pcm;
-    struct pcm_wear wear = {9, 9, 9, 9, 9, 9, 9};
-    uint8_t bytes[64];
-    memset(bytes, 0xff, sizeof bytes);
-    memset(&taken, 0, sizeof taken);
-    check(pcm_open(&pcm, words) == PCM_OK && pcm_look(&pcm, 0, &wear, take, &taken) == PCM_OK && taken.count == 0, "a look at a new module");
-    check(wear.pulses + wear.most + wear.mean + wear.pointers + wear.senses + wear.set + wear.reset == 0, "nothing was done");
-    check(pcm_write(&pcm, 0, 0, bytes, 64) == PCM_OK && pcm_look(&pcm, 14, &wear, take, &taken) == PCM_OK && pcm.rows == 1, "a look has no number");
-    check(wear.senses == 1 && wear.pulses == 0 && taken.count == 0 && pcm.settles == 0, "a sense was made");
-    check(pcm_look(&pcm, 15, &wear, take, &taken) == PCM_OK && taken.count == 1 && taken.kinds[0] == PCM_STORED, "what is known by then is told");
-    check(wear.pulses == 1 && wear.most == 1 && wear.mean == 0 && wear.pointers == 0, "a pulse was made");
-    check(wear.set == 512 && wear.reset == 0, "it drove all cells to 1");
-    check(pcm_look(&pcm, 14, &wear, NULL, NULL) == PCM_REFUSED && pcm_look(&pcm, 20, NULL, NULL, NULL) == PCM_OK, "a tick that falls is refused");
-    check(pcm_finish(&pcm) == PCM_OK && ends(&pcm) && pcm_close(&pcm) == 0, "status 0");
-}
-
 static void a_shape_that_is_none(void)
 {
     static struct pcm pcm;
@@ -362,7 +344,6 @@ int main(int count, char **words)
     what_was_told_before_an_end_is_handed_on(all);
     a_stream_that_ends_with_a_refusal(all, n);
     a_tick_that_was_not_asked_for();
-    wear_is_told(all);
     a_shape_that_is_none();
     a_script_is_asked_what_its_module_is(all, n);
     digits_are_put_and_read();

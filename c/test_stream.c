@@ -320,6 +320,24 @@ static void what_waits_in_each_bank_is_told(const char *const words[], int count
     check(pcm_finish(&pcm) == PCM_OK && ends(&pcm) && pcm_close(&pcm) == 0, "status 0");
 }
 
+static void wear_is_told(const char *const words[])
+{
+    static struct pcm pcm;
+    struct pcm_wear wear = {9, 9, 9, 9, 9, 9, 9};
+    uint8_t bytes[64];
+    memset(bytes, 0xff, sizeof bytes);
+    memset(&taken, 0, sizeof taken);
+    check(pcm_open(&pcm, words) == PCM_OK && pcm_look(&pcm, 0, &wear, take, &taken) == PCM_OK && taken.count == 0, "a look at a new module");
+    check(wear.pulses + wear.most + wear.mean + wear.pointers + wear.senses + wear.set + wear.reset == 0, "nothing was done");
+    check(pcm_write(&pcm, 0, 0, bytes, 64) == PCM_OK && pcm_look(&pcm, 14, &wear, take, &taken) == PCM_OK && pcm.rows == 1, "a look has no number");
+    check(wear.senses == 1 && wear.pulses == 0 && taken.count == 0 && pcm.settles == 0, "a sense was made");
+    check(pcm_look(&pcm, 15, &wear, take, &taken) == PCM_OK && taken.count == 1 && taken.kinds[0] == PCM_STORED, "what is known by then is told");
+    check(wear.pulses == 1 && wear.most == 1 && wear.mean == 0 && wear.pointers == 0, "a pulse was made");
+    check(wear.set == 512 && wear.reset == 0, "it drove all cells to 1");
+    check(pcm_look(&pcm, 14, &wear, NULL, NULL) == PCM_REFUSED && pcm_look(&pcm, 20, NULL, NULL, NULL) == PCM_OK, "a tick that falls is refused");
+    check(pcm_finish(&pcm) == PCM_OK && ends(&pcm) && pcm_close(&pcm) == 0, "status 0");
+}
+
 static void a_settle_until_stops_where_its_row_has_its_outcome(const char *const words[])
 {
     static struct pcm pcm;
@@ -474,6 +492,7 @@ int main(int count, char **words)
     writes_are_answered_at_once(all, n);
     a_log_is_replayed(all);
     what_waits_in_each_bank_is_told(all, n);
+    wear_is_told(all);
     a_settle_until_stops_where_its_row_has_its_outcome(all);
     settles_until_agree_with_the_outcomes(all, n);
     what_the_module_is_is_told(all, n);

@@ -44,7 +44,7 @@ def row(draw, tick, line, size, rows):
         return f"{tick},C,,"
     if kind < 0.95 and rows:
         return f"{tick},U,{draw.randrange(rows) + 1},"
-    return f"{tick},{'Q' if kind < 0.97 else 'S'},,"
+    return f"{tick},{'Q' if kind < 0.97 else 'L' if kind < 0.98 else 'S'},,"
 
 
 def trace(draw, drawn):

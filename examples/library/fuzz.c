@@ -197,6 +197,11 @@ static void looks(struct known *it)
     wants(status == (!it->pcm.is_open ? PCM_MODULE_CLOSED : bank >= it->options.banks ? PCM_MODULE_NO_BANK : PCM_MODULE_OK), "a bank");
     if (status == PCM_MODULE_OK)
         wants(backlog.writes <= it->options.write_queue && backlog.reads <= it->options.read_queue && backlog.mark <= PCM_MODULE_HALTED, "what waits");
+    struct pcm_module_wear wear = {0, 0, 0, 0, 0, 0, 0};
+    status = pcm_module_look(&it->pcm, &wear);
+    wants(status == (it->pcm.is_open ? PCM_MODULE_OK : PCM_MODULE_CLOSED), "a look");
+    wants(wear.mean <= wear.most && wear.most <= wear.pulses, "how worn it is");
+    sum = sum * 31 + wear.pulses + wear.senses + wear.set + wear.pointers;
     wants(pcm_module_rows(&it->pcm) == (it->pcm.is_open ? it->rows : 0), "how many rows came");
     wants(pcm_module_tick(&it->pcm) == (it->pcm.is_open ? it->tick : 0) || it->has_ended, "the tick that was reached");
     wants(pcm_module_lines(&it->pcm) == total_of(it), "how many lines there are");

@@ -1,6 +1,5 @@
 /* Replays a trace of `pcm stream` in this process, by pcm_stream.h over the library, and prints what that would: replay [--OPTION VALUE ..] <TRACE.
-   Words as of `pcm stream`; rows that look at the array's wear (L) aren't known here. Status 0, 2 for words, 3 for a row that the module refuses, 7
-   where memory ran out. */
+   Words as of `pcm stream`. Status 0, 2 for words, 3 for a row that the module refuses, 7 where memory ran out. */
 #define PCM_STREAM_LIBRARY
 #include "pcm_stream.h"
 
@@ -19,17 +18,29 @@ static void tell(void *context, const struct pcm_outcome *it)
     putchar('\n');
 }
 
+static void tell_wear(uint64_t tick, const struct pcm_wear *it)
+{
+    const uint64_t numbers[] = {it->pulses, it->most, it->mean, it->pointers, it->senses, it->set, it->reset};
+    printf(",wear,%llu,,", (unsigned long long)tick);
+    for (int i = 0; i < 7; i++)
+        printf("%llu%c", (unsigned long long)numbers[i], i < 6 ? ' ' : '\n');
+}
+
 /* What the module answers to a row that settles; what it tells is printed. */
 static enum pcm_result settled(struct pcm *pcm, uint64_t tick, char op, uint32_t row)
 {
     struct pcm_bank banks[64];
+    struct pcm_wear wear = {0, 0, 0, 0, 0, 0, 0};
     memset(banks, 0, sizeof banks);
     enum pcm_result result = op == 'U'   ? pcm_settle_until(pcm, row, tick, tell, NULL)
                              : op == 'Q' ? pcm_ask(pcm, tick, banks, 64, tell, NULL)
+                             : op == 'L' ? pcm_look(pcm, tick, &wear, tell, NULL)
                                          : pcm_settle_all(pcm, tick, tell, NULL);
     for (uint32_t i = 0; result == PCM_OK && op == 'Q' && i < pcm->told.banks; i++)
         printf(",bank,%llu,%u,%u %u %s\n", (unsigned long long)tick, (unsigned)i, (unsigned)banks[i].waiting_writes, (unsigned)banks[i].waiting_reads,
                marks[banks[i].mark]);
+    if (result == PCM_OK && op == 'L')
+        tell_wear(tick, &wear);
     if (result == PCM_OK)
         printf(",settled,%llu,,\n", (unsigned long long)pcm->tick);
     return result;
@@ -41,7 +52,7 @@ static enum pcm_result played(struct pcm *pcm, const char *row)
     struct pcm_outcome outcome;
     char *at;
     uint64_t tick = strtoull(row, &at, 10);
-    if (at[0] == ',' && (at[1] == 'S' || at[1] == 'Q' || at[1] == 'U'))
+    if (at[0] == ',' && (at[1] == 'S' || at[1] == 'Q' || at[1] == 'U' || at[1] == 'L'))
         return settled(pcm, tick, at[1], (uint32_t)strtoul(at + 3, NULL, 10));
     enum pcm_result result = pcm_replay(pcm, row, tell, NULL);
     while (result == PCM_OK && pcm_next(pcm, &outcome) == PCM_OK)

@@ -41,6 +41,10 @@ class _Options(ctypes.Structure):
     _fields_ = [("size", ctypes.c_uint32), *((name, ctypes.c_uint32) for name in _NUMBERS), ("seed", ctypes.c_uint64)]
 
 
+class _Worn(ctypes.Structure):
+    _fields_ = [(name, ctypes.c_uint64) for name in ("pulses", "most", "mean", "pointers", "senses", "set", "reset")]
+
+
 class _Waits(ctypes.Structure):
     _fields_ = [("writes", ctypes.c_uint32), ("reads", ctypes.c_uint32), ("mark", ctypes.c_uint32)]
 
@@ -72,10 +76,14 @@ def _loaded(path: str) -> ctypes.CDLL:
     """The library. Its calls are given C's values, bytes and numbers below 2**31 as they are: types of their own that ctypes looks at would take longer
     than the module. `OSError` where it can't be loaded."""
     calls = ctypes.CDLL(path)
-    if not hasattr(calls, "pcm_module_next"):
+    if not hasattr(calls, "pcm_module_look"):
         raise OSError(f"{path} isn't {_NAME}")
     calls.pcm_module_tick.restype = ctypes.c_uint64
     return calls
+
+
+def _knows(name: str, value: str) -> bool:
+    return name in _NUMBERS or name == "seed" or value in _ANYWAY.get(name, ()) or name.replace("_", "-") not in COMMANDS["stream"].options
 
 
 def _options(given: Dict[str, object]) -> _Options:
@@ -85,7 +93,7 @@ def _options(given: Dict[str, object]) -> _Options:
     if wrong := wrong_word(["stream", *words_of(given)]):
         raise UsageError(2, "usage: pcm stream [options]", wrong)
     for name, value in values.items():
-        if name not in _NUMBERS and name != "seed" and value not in _ANYWAY.get(name, ()):
+        if not _knows(name, value):
             raise Unlinked(f"the library has no {name}={value!r}: way=\"program\" has")
     made = _Options(size=ctypes.sizeof(_Options), seed=int(values.get("seed", "0")))
     for name in _NUMBERS:
@@ -141,8 +149,6 @@ class Linked:
         self._tick.value = tick
         if op == "U":
             status = self._calls.pcm_module_settle_until(self._at, ctypes.c_uint32(row), self._tick)
-        elif op == "L":
-            raise ValueError("the library doesn't tell how worn a module is: way=\"program\" does")
         else:
             status = self._calls.pcm_module_settle(self._at, self._tick)
         if status != _OK:
@@ -161,8 +167,10 @@ class Linked:
         return told
 
     def wear(self) -> Wear:
-        """(No look is answered.)"""
-        raise NotImplementedError
+        """How worn the module is."""
+        told = _Worn()
+        self._calls.pcm_module_look(self._at, ctypes.byref(told))
+        return Wear(int(self._calls.pcm_module_tick(self._at)), *(getattr(told, name) for name, _ in _Worn._fields_))
 
     def take(self) -> List[Outcome]:
         """The outcomes that are known and weren't taken."""
@@ -199,8 +207,8 @@ class Linked:
 
     @property
     def has_ended(self) -> bool:
-        """Whether it was finished."""
-        return self._is_finished
+        """Whether it was finished, or closed."""
+        return self._is_finished or not self._freed.alive
 
     def _drain(self) -> None:
         """Takes all outcomes that wait."""

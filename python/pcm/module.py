@@ -18,8 +18,8 @@ class Module:
     """A phase-change memory module: behind a pipe, or in this process.
 
     `way` says which: `"program"`, or `"library"`, libpcm.so.1, with the same answers; else the environment's PCM_WAY does, where no program is
-    named; else it is the program. The library is the one that PCM_LIBRARY names, or else is in the wheel, built or installed. It makes no copies
-    and tells no wear, its options are those of a module (and `end="drain"`, `tell`), it knows from the start which lines there are, and no call of
+    named; else it is the program. The library is the one that PCM_LIBRARY names, or else is in the wheel, built or installed. It makes no copies,
+    its options are those of a module (and `end="drain"`, `tell`), it knows from the start which lines there are, and no call of
     it waits, so `progress` tells nothing.
 
     Rows are numbered from 1 in the order in which they are handed in; each call answers its row's number. Outcomes come from `settle`,
@@ -170,7 +170,7 @@ class Module:
 
     def wear(self, tick: Optional[int] = None) -> Wear:
         """Every bank goes on to a tick (None: that at which the module stands). Answers how worn the module is then; it goes over all array lines.
-        Outcomes known by then come from the next `settle`, `outcomes` or `finish`. `ValueError` where the library serves it, which doesn't tell that."""
+        Outcomes known by then come from the next `settle`, `outcomes` or `finish`."""
         self._settle("L", self.tick if tick is None else tick)
         return self._way.wear()
 

@@ -48,7 +48,7 @@ def drawn_call(draw, module, lines, size, step=60):
         return "cut", tick
     if kind < 0.84 and module._rows:
         return "settle_until", draw.randrange(module._rows) + 1, tick + 200
-    return ("settle" if kind < 0.95 else "banks"), tick
+    return ("settle" if kind < 0.92 else "wear" if kind < 0.95 else "banks"), tick
 
 
 def answer(module, name, *arguments):
@@ -128,6 +128,13 @@ class Ways(unittest.TestCase):
             for name, arguments in (("read", (9, 0)), ("settle", (100,)), ("finish", ()), ("bank_of", (0,))):
                 self.same(modules, name, *arguments)
 
+    def test_a_module_may_be_closed_within_its_block(self):
+        for module in self.both(**SMALL):
+            with module:
+                module.read(0, 0)
+                module.close()
+            self.assertIsNone(module.status)
+
     def test_logs_are_alike(self):
         logs = [io.StringIO(newline="") for _ in range(2)]
         modules = [pcm.Module(way=way, log=log, **SMALL) for way, log in zip(("program", "library"), logs)]
@@ -176,7 +183,6 @@ class Ways(unittest.TestCase):
             pcm.Module(way="library", copies=True)
         with pcm.Module(way="library") as module:
             module.read(7, 0)
-            self.assertRaisesRegex(ValueError, "the library doesn't tell how worn", module.wear)
             self.assertRaisesRegex(ValueError, "without copies=True", module.copy)
             self.assertEqual((2, [1, 2]), (module.read(7, 1), [it.row for it in module.settle(100)]))
 

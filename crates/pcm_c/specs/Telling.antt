@@ -1,13 +1,16 @@
 -- How outcomes and what waits in a bank are told to C.
 use Rattle.std.specs.Prelude.{◌≡◌, ℕ, ◌≤◌, [], length, take, unwrap_or, Option, Some, None}
+use Rattle.cell_rows.specs.Energy.{no_energy}
 use Rattle.result_rows.specs.{Outcomes.{bytes_of, place_of, tick_of}, declared.Outcome.Outcome}
 use Rattle.result_rows.specs.declared.Outcome.TheVariants as out
 use Rattle.pcm_module.specs.State.{bank_at}
 use Rattle.row_stream.specs.Answering.{backlog_of}
-use Rattle.row_printer.specs.{declared.told.Backlog.Backlog, declared.told.Mark.Mark, declared.told.Mark.TheVariants.{Going, Exhausted, Halted}}
+use Rattle.pcm_cells.specs.Seeded.{seeded_state}
+use Rattle.wear_totals.specs.Wear.{wear_of}
+use Rattle.row_printer.specs.{declared.told.ArrayWear.ArrayWear, declared.told.Backlog.Backlog, declared.told.Mark.Mark, declared.told.Mark.TheVariants.{Going, Exhausted, Halted}}
 use Rattle.pcm_library.specs.declared.keeper.Kept.{Kept}
 use Rattle.pcm_c.specs.{Calls.Hands, declared.backlog.ModuleBacklog.ModuleBacklog, declared.held.Held.Held, declared.held.Held.TheVariants.{Narrow, Wide}}
-use Rattle.pcm_c.specs.declared.outcome.ModuleOutcome.{ModuleOutcome}
+use Rattle.pcm_c.specs.{declared.outcome.ModuleOutcome.ModuleOutcome, declared.wear.ModuleWear.ModuleWear}
 
 -- the number of a kind of outcomes
 abbrev pub kind_of : {n : ℕ} → Outcome n → ℕ
@@ -78,3 +81,19 @@ LacksBank bank (Wide held) = held.module_.shape.banks ≤ bank
 abbrev pub TellsBankAt : ℕ → Option Held → ModuleBacklog → Type 0
 TellsBankAt bank (Some held) told = TellsBank bank held told
 TellsBankAt bank None told = ⊥
+
+-- how worn an array is is told so: its energy as none where it isn't counted
+abbrev pub told_wear : ArrayWear → ModuleWear
+told_wear wear =
+    let energy = unwrap_or wear.energy no_energy in
+    record { pulses = wear.pulses; most = wear.most; mean = wear.mean; pointers = wear.pointers; senses = energy.senses; set = energy.set; reset = energy.reset }
+
+-- how worn the array of a module is, whose lines have six pointers or eight
+abbrev pub wear_at : Held → ModuleWear
+wear_at (Narrow held) = told_wear (wear_of 6 (seeded_state held.array))
+wear_at (Wide held) = told_wear (wear_of 8 (seeded_state held.array))
+
+-- it is told of the one behind an open handle
+abbrev pub TellsWearAt : Option Held → ModuleWear → Type 0
+TellsWearAt (Some held) told = told ≡ wear_at held
+TellsWearAt None told = ⊥

@@ -1,9 +1,10 @@
 // Calls of a module with lines of any size.
-ghost use Rattle.std.specs.Prelude.{◌≡◌, ◌≢◌, ◌≤◌, None, Some, replicate};
+ghost use Rattle.std.specs.Prelude.{◌≡◌, ◌≢◌, ◌≤◌, None, Some, length, replicate};
 ghost use Rattle.masked_bytes.specs.Masked.{laid};
 ghost use Rattle.trace_reader.specs.declared.event.EventOp.TheVariants.{Cut, Mask, Read, Write};
 ghost use Rattle.trace_stream.specs.declared.asked.Asked.TheVariants.{Happens, Settle, Until as Waits};
 ghost use Rattle.pcm_library.specs.declared.keeper.Kept.{Kept};
+ghost use Rattle.pcm_c.specs.Answers.{RowTold, finish_status, next_status, refusal_of_cut, refusal_of_masked, refusal_of_read, refusal_of_write, settle_status, status_number, wait_status};
 ghost use Rattle.pcm_c.specs.Calls.{Finishes, Hands, Takes};
 ghost use Rattle.pcm_c.specs.Telling.{IsTold};
 
@@ -18,6 +19,8 @@ pub(crate) fn read<const B: usize, const M: usize, const E: usize, A: CellArray<
     tick: u64,
     line: u32,
 ) -> Status
+    ensures answer { RowTold session.old (refusal_of_read session.old tick line)
+        (status_number result) }
     ensures done { result ≡ Status.Done → Takes A.state (Happens (record {
       tick = tick;
       op = Read line;
@@ -35,6 +38,8 @@ pub(crate) fn write<const B: usize, const M: usize, const E: usize, A: CellArray
     bytes: &[u8],
 ) -> Status
     requires few { B ≤ 128 }
+    ensures answer { RowTold session.old (refusal_of_write session.old tick line (length bytes.now))
+        (status_number result) }
     ensures done { result ≡ Status.Done → Takes A.state (Happens (record {
       tick = tick;
       op = Write line bytes.now;
@@ -58,6 +63,8 @@ pub(crate) fn write_masked<
     A: CellArray<B, M> + Drop,
 >(session: &mut Session<B, M, E, A>, tick: u64, line: u32, bytes: &[u8], given: &[bool]) -> Status
     requires few { B ≤ 128 }
+    ensures answer { RowTold session.old
+        (refusal_of_masked session.old tick line (length bytes.now) given.now) (status_number result) }
     ensures done { result ≡ Status.Done → Takes A.state (Happens (record {
       tick = tick;
       op = Mask line (laid bytes.now given.now (replicate B 0)) given.now;
@@ -81,6 +88,7 @@ pub(crate) fn cut<const B: usize, const M: usize, const E: usize, A: CellArray<B
     session: &mut Session<B, M, E, A>,
     tick: u64,
 ) -> Status
+    ensures answer { RowTold session.old (refusal_of_cut session.old tick) (status_number result) }
     ensures done { result ≡ Status.Done → Takes A.state (Happens (record {
       tick = tick;
       op = Cut;
@@ -96,6 +104,7 @@ pub(crate) fn next<const B: usize, const M: usize, const E: usize, A: CellArray<
     out: &mut ModuleOutcome,
 ) -> Status
     requires few { B ≤ 128 }
+    ensures answer { result ≡ next_status session.old }
     ensures done { result ≡ Status.Done
         → (kept : Kept B) × Hands (Some kept) session.old session.new × IsTold kept out.new }
     ensures none { result ≢ Status.Done → Hands None session.old session.new }
@@ -115,6 +124,7 @@ pub(crate) fn settle<const B: usize, const M: usize, const E: usize, A: CellArra
     session: &mut Session<B, M, E, A>,
     tick: u64,
 ) -> Status
+    ensures answer { result ≡ settle_status session.old tick }
     ensures done { result ≡ Status.Done → Takes A.state (Settle tick) session.old session.new }
     ensures rest { result ≢ Status.Done → session.new ≡ session.old }
 {
@@ -128,6 +138,7 @@ pub(crate) fn settle_until<
     const E: usize,
     A: CellArray<B, M> + Drop,
 >(session: &mut Session<B, M, E, A>, row: u32, limit: u64) -> Status
+    ensures answer { result ≡ wait_status session.old row limit }
     ensures done { result ≡ Status.Done → Takes A.state (Waits (record {
       row = row;
       limit = limit;
@@ -142,6 +153,7 @@ pub(crate) fn settle_until<
 pub(crate) fn finish<const B: usize, const M: usize, const E: usize, A: CellArray<B, M> + Drop>(
     session: &mut Session<B, M, E, A>,
 ) -> Status
+    ensures answer { result ≡ finish_status session.old }
     ensures done { result ≡ Status.Done → Finishes A.state session.old session.new }
     ensures rest { result ≢ Status.Done → session.new ≡ session.old }
 {

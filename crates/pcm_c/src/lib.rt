@@ -1,14 +1,15 @@
 //! A module in the process of a C program: the functions of c/pcm.h. None requires more than valid pointers; what C can break says that header.
 #![tactic(auto)]
 
-ghost use Rattle.std.specs.Prelude.{◌≡◌, ◌≢◌, IfErr, IfOk, None, Some, replicate};
+ghost use Rattle.std.specs.Prelude.{◌≡◌, ◌≢◌, IfErr, IfOk, None, Some, length, replicate};
 ghost use Rattle.masked_bytes.specs.Masked.{laid};
 ghost use Rattle.cell_rows.specs.Device.{IsWear};
 ghost use Rattle.trace_reader.specs.declared.event.EventOp.TheVariants.{Cut, Mask, Read, Write};
 ghost use Rattle.trace_stream.specs.declared.asked.Asked.TheVariants.{Happens, Settle, Until as Waits};
+ghost use Rattle.pcm_c.specs.Answers.{RowToldAt, bank_status, finish_status, next_status, number_at, refusal_of_cut, refusal_of_masked, refusal_of_read, refusal_of_write, settle_status, wait_status};
 ghost use Rattle.pcm_c.specs.Calls.{FinishesAt, TakesRowAt, lines_at, number_of, rows_at, tick_at, waiting_at};
 ghost use Rattle.pcm_c.specs.Opening.{AreRight, BeginsWith, OpensAt};
-ghost use Rattle.pcm_c.specs.Telling.{HandsAt, HandsNothingAt, TellsBankAt};
+ghost use Rattle.pcm_c.specs.Telling.{HandsAt, HandsNothingAt, TellsBankAt, TellsWearAt};
 
 mod backlog;
 mod calls;
@@ -20,6 +21,7 @@ mod options;
 mod outcome;
 mod pcm;
 mod status;
+mod wear;
 
 use crate::options::{Chosen, choose};
 use crate::status::Status;
@@ -30,6 +32,7 @@ pub use options::ModuleOptions;
 pub use outcome::ModuleOutcome;
 pub use pcm::PcmModule;
 use std::alloc::Global;
+pub use wear::ModuleWear;
 
 /// The number of an option that is out of range, or 0 where none is.
 #[unsafe(no_mangle)]
@@ -95,6 +98,7 @@ pub extern "C" fn pcm_module_open(
 /// A write of a whole line comes.
 #[unsafe(no_mangle)]
 pub extern "C" fn pcm_module_write(pcm: &mut PcmModule, tick: u64, line: u32, bytes: &[u8]) -> u32
+    ensures answer { RowToldAt (λ n m e s. refusal_of_write s tick line (length bytes.now)) pcm.old.value result }
     ensures done { result ≡ 0 → TakesRowAt (λ n. Happens (record {
       tick = tick;
       op = Write line bytes.now;
@@ -116,6 +120,7 @@ pub extern "C" fn pcm_module_write_masked(
     bytes: &[u8],
     given: &[bool],
 ) -> u32
+    ensures answer { RowToldAt (λ n m e s. refusal_of_masked s tick line (length bytes.now) given.now) pcm.old.value result }
     ensures done { result ≡ 0 → TakesRowAt (λ n. Happens (record {
       tick = tick;
       op = Mask line (laid bytes.now given.now (replicate n 0)) given.now;
@@ -134,6 +139,7 @@ pub extern "C" fn pcm_module_write_masked(
 /// A read of a line comes.
 #[unsafe(no_mangle)]
 pub extern "C" fn pcm_module_read(pcm: &mut PcmModule, tick: u64, line: u32) -> u32
+    ensures answer { RowToldAt (λ n m e s. refusal_of_read s tick line) pcm.old.value result }
     ensures done { result ≡ 0 → TakesRowAt (λ n. Happens (record {
       tick = tick;
       op = Read line;
@@ -149,6 +155,7 @@ pub extern "C" fn pcm_module_read(pcm: &mut PcmModule, tick: u64, line: u32) -> 
 /// The power is cut.
 #[unsafe(no_mangle)]
 pub extern "C" fn pcm_module_cut(pcm: &mut PcmModule, tick: u64) -> u32
+    ensures answer { RowToldAt (λ n m e s. refusal_of_cut s tick) pcm.old.value result }
     ensures done { result ≡ 0 → TakesRowAt (λ n. Happens (record {
       tick = tick;
       op = Cut;
@@ -164,6 +171,7 @@ pub extern "C" fn pcm_module_cut(pcm: &mut PcmModule, tick: u64) -> u32
 /// Every bank comes to a tick.
 #[unsafe(no_mangle)]
 pub extern "C" fn pcm_module_settle(pcm: &mut PcmModule, tick: u64) -> u32
+    ensures answer { result ≡ number_at (λ n m e s. settle_status s tick) pcm.old.value }
     ensures done { result ≡ 0 → TakesRowAt (λ n. Settle tick) pcm.old.value
         pcm.new.value }
     ensures rest { result ≢ 0 → pcm.new ≡ pcm.old }
@@ -177,6 +185,7 @@ pub extern "C" fn pcm_module_settle(pcm: &mut PcmModule, tick: u64) -> u32
 /// Every bank goes on until a row has its outcome, at most to a tick.
 #[unsafe(no_mangle)]
 pub extern "C" fn pcm_module_settle_until(pcm: &mut PcmModule, row: u32, limit: u64) -> u32
+    ensures answer { result ≡ number_at (λ n m e s. wait_status s row limit) pcm.old.value }
     ensures done { result ≡ 0 → TakesRowAt (λ n. Waits (record {
       row = row;
       limit = limit;
@@ -193,6 +202,7 @@ pub extern "C" fn pcm_module_settle_until(pcm: &mut PcmModule, row: u32, limit: 
 /// No more rows come: the banks drain.
 #[unsafe(no_mangle)]
 pub extern "C" fn pcm_module_finish(pcm: &mut PcmModule) -> u32
+    ensures answer { result ≡ number_at (λ n m e s. finish_status s) pcm.old.value }
     ensures done { result ≡ 0 → FinishesAt pcm.old.value pcm.new.value }
     ensures rest { result ≢ 0 → pcm.new ≡ pcm.old }
 {
@@ -205,6 +215,7 @@ pub extern "C" fn pcm_module_finish(pcm: &mut PcmModule) -> u32
 /// The first outcome that waits is taken.
 #[unsafe(no_mangle)]
 pub extern "C" fn pcm_module_next(pcm: &mut PcmModule, out: &mut ModuleOutcome) -> u32
+    ensures answer { result ≡ number_at (λ n m e s. next_status s) pcm.old.value }
     ensures done { result ≡ 0 → HandsAt pcm.old.value pcm.new.value out.new }
     ensures none { result ≢ 0 → HandsNothingAt pcm.old.value pcm.new.value }
     ensures out { result ≢ 0 → out.new ≡ out.old }
@@ -218,13 +229,30 @@ pub extern "C" fn pcm_module_next(pcm: &mut PcmModule, out: &mut ModuleOutcome) 
 /// What waits in a bank.
 #[unsafe(no_mangle)]
 pub extern "C" fn pcm_module_bank(pcm: &mut PcmModule, bank: u32, out: &mut ModuleBacklog) -> u32
+    ensures answer { result ≡ number_at (λ n m e s. bank_status s bank) pcm.old.value }
     ensures done { result ≡ 0 → TellsBankAt bank pcm.old.value out.new }
     ensures rest { pcm.new ≡ pcm.old }
+    ensures out { result ≢ 0 → out.new ≡ out.old }
 {
     if !pcm.is_open {
         return Status::Closed.number();
     }
     pcm.handle.held().bank(bank, out).number()
+}
+
+/// How worn the module is: a walk over its array lines.
+#[unsafe(no_mangle)]
+pub extern "C" fn pcm_module_look(pcm: &mut PcmModule, out: &mut ModuleWear) -> u32
+    ensures answer { result ≡ number_at (λ n m e s. Status.Done) pcm.old.value }
+    ensures done { result ≡ 0 → TellsWearAt pcm.old.value out.new }
+    ensures rest { pcm.new ≡ pcm.old }
+    ensures out { result ≢ 0 → out.new ≡ out.old }
+{
+    if !pcm.is_open {
+        return Status::Closed.number();
+    }
+    pcm.handle.held().look(out);
+    Status::Done.number()
 }
 
 /// The tick that was reached; 0 where it is closed.

@@ -1,5 +1,6 @@
 // What a call answers to C.
 ghost use Rattle.std.specs.Prelude.{◌≡◌, ◌≢◌};
+ghost use Rattle.pcm_c.specs.Answers.{status_number, status_of};
 
 use pcm_library::Answer;
 
@@ -39,6 +40,7 @@ pub(crate) enum Status {
 impl Status {
     /// Its number in C.
     pub(crate) fn number(self) -> u32
+        ensures is { result ≡ status_number self }
         ensures done { result ≡ 0 → self ≡ Status.Done }
         ensures other { result ≢ 0 → self ≢ Status.Done }
     {
@@ -63,6 +65,7 @@ impl Status {
 
 /// The status that says what a session answered.
 pub(crate) fn told(answer: Answer) -> Status
+    ensures is { result ≡ status_of answer }
     ensures done { result ≡ Status.Done → answer ≡ Answer.Done }
     ensures other { result ≢ Status.Done → answer ≢ Answer.Done }
 {

@@ -2,5 +2,5 @@ use Rattle.std.proofs.Common.{lit<, lit≤}
 use Rattle.ecp_line.proofs.Sizes.{layout_64}
 use Rattle.pcm_c.proofs.held.narrow.Goals as goal
 
-pub new-requires : goal.new-requires
-new-requires c = (lit< tt, (layout_64, (λ home. lit≤ tt, c.requires)))
+pub new-requires-2 : goal.new-requires-2
+new-requires-2 c = (lit< tt, (layout_64, (λ home. lit≤ tt, c.requires)))
