@@ -82,6 +82,12 @@ def _loaded(path: str) -> ctypes.CDLL:
     return calls
 
 
+def has(given: Dict[str, object]) -> bool:
+    """Whether there is a library, and it does what these options ask for."""
+    values = {name: str(value) for name, value in given.items() if value is not None}
+    return library() is not None and all(_knows(name, value) for name, value in values.items())
+
+
 def _knows(name: str, value: str) -> bool:
     return name in _NUMBERS or name == "seed" or value in _ANYWAY.get(name, ()) or name.replace("_", "-") not in COMMANDS["stream"].options
 

@@ -5,7 +5,7 @@ from types import TracebackType
 from typing import IO, Dict, Iterable, Iterator, List, Optional, Sequence, Type, Union
 
 from .errors import TraceError, UsageError
-from .linked import Linked
+from .linked import Linked, has
 from .outcomes import Backlog, Outcome, Shape, Wear
 from .program import Program, command, words_of
 from .randomiser import Randomiser
@@ -18,9 +18,10 @@ class Module:
     """A phase-change memory module: behind a pipe, or in this process.
 
     `way` says which: `"program"`, or `"library"`, libpcm.so.1, with the same answers; else the environment's PCM_WAY does, where no program is
-    named; else it is the program. The library is the one that PCM_LIBRARY names, or else is in the wheel, built or installed. It makes no copies,
-    its options are those of a module (and `end="drain"`, `tell`), it knows from the start which lines there are, and no call of
-    it waits, so `progress` tells nothing.
+    named; else it is the library, where there is one, no program is named by the environment's PCM either, and it does what is asked for. The
+    library is the one that PCM_LIBRARY names, or else is in the wheel, built or installed. It makes no copies, its options are those of a module
+    (and `end="drain"`, `tell`), of which a wrong one shows at once, it knows from the start which lines there are, and no call of it waits, so
+    `progress` tells nothing.
 
     Rows are numbered from 1 in the order in which they are handed in; each call answers its row's number. Outcomes come from `settle`,
     `settle_until`, `finish` and `outcomes`, each once, in the order in which they become known. Rows may be handed in at any rate and
@@ -77,9 +78,11 @@ class Module:
     def _opened(
         self, way: Optional[str], program: Program, progress: Optional[bool], copies: Union[bool, str], options: Dict[str, object]
     ) -> Union[Linked, Streamed]:
-        """The module, by the way that is asked for, or else by the program."""
+        """The module, by the way that is asked for, or else by the library, where it can."""
         named = program is not None or bool(copies)
-        asked = way or (None if named else os.environ.get("PCM_WAY")) or "program"
+        asked = way or ("" if named else os.environ.get("PCM_WAY", ""))
+        if not asked:
+            asked = "library" if not named and not os.environ.get("PCM") and has(options) else "program"
         if asked not in ("library", "program"):
             raise ValueError(f"a module's way is library or program, not {asked!r}")
         if asked == "library" and copies:

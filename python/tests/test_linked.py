@@ -198,9 +198,19 @@ class Ways(unittest.TestCase):
         with mock.patch.dict(os.environ, {**kept, **environment}, clear=True), pcm.Module(**options) as module:
             return {Linked: "library", Streamed: "program"}[type(module._way)]
 
+    def test_the_library_is_taken_where_it_can_be(self):
+        self.assertEqual("library", self.way({}))
+        self.assertEqual("library", self.way({}, tell="shape", policy="cancel", end="drain", seed=None))
+        self.assertEqual("program", self.way({"PCM_WAY": "program"}))
+        for options in ({"end": "off"}, {"until": "refused"}, {"input": "drawn", "rows": 5}):
+            self.assertEqual("program", self.way({}, **options))
+        with mock.patch("pcm.linked.library", return_value=None):
+            self.assertEqual("program", self.way({}))
+        with self.assertRaises(pcm.UsageError):
+            self.way({}, polcy="pause")
+
     def test_the_library_is_taken_where_it_is_asked_for(self):
         program = pcm.program()
-        self.assertEqual("program", self.way({}))
         self.assertEqual("program", self.way({"PCM": program[0]}))
         self.assertEqual("program", self.way({}, program=program))
         self.assertEqual("library", self.way({"PCM_WAY": "library"}))
