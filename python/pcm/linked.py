@@ -213,8 +213,8 @@ class Linked:
 
     @property
     def has_ended(self) -> bool:
-        """Whether it was finished."""
-        return self._is_finished
+        """Whether it was finished, or closed."""
+        return self._is_finished or not self._freed.alive
 
     def _drain(self) -> None:
         """Takes all outcomes that wait."""

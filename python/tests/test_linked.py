@@ -128,6 +128,13 @@ class Ways(unittest.TestCase):
             for name, arguments in (("read", (9, 0)), ("settle", (100,)), ("finish", ()), ("bank_of", (0,))):
                 self.same(modules, name, *arguments)
 
+    def test_a_module_may_be_closed_within_its_block(self):
+        for module in self.both(**SMALL):
+            with module:
+                module.read(0, 0)
+                module.close()
+            self.assertIsNone(module.status)
+
     def test_logs_are_alike(self):
         logs = [io.StringIO(newline="") for _ in range(2)]
         modules = [pcm.Module(way=way, log=log, **SMALL) for way, log in zip(("program", "library"), logs)]

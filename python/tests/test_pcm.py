@@ -166,7 +166,7 @@ class Streams(unittest.TestCase):
             self.assertEqual((3000, wanted), (len(told), set(told)))
 
     def test_a_fault_carries_row_and_kind_and_known_outcomes_stay(self):
-        module = pcm.Module(**SMALL)
+        module = pcm.Module(way="program", **SMALL)
         module.write(0, 0, ONES)
         module.read(100, 9)
         with self.assertRaises(pcm.TraceError) as wrong:
@@ -221,14 +221,14 @@ class Streams(unittest.TestCase):
         self.assertLess(late - soon, 1000)
 
     def test_a_module_that_is_dropped_ends_its_program(self):
-        with pcm.Module(**SMALL) as module:
+        with pcm.Module(way="program", **SMALL) as module:
             module.write(0, 0, ONES)
             module.close()
             self.assertIsNotNone(module._way.process.returncode)
 
     def closed(self, *, known=0, **options):
         """A module that was closed before its end, when so many outcomes were known that nobody had taken."""
-        module = pcm.Module(**SMALL, **options)
+        module = pcm.Module(way="program", **SMALL, **options)
         for tick in range(known):
             module.cut(tick)
         module.banks(known)
@@ -249,7 +249,7 @@ class Streams(unittest.TestCase):
             self.assertEqual((None, None), (module.status, module.shape))
         module = self.closed(tell="shape")
         self.assertEqual(4, module.shape.lines)
-        module = pcm.Module(tell="shape", **SMALL)
+        module = pcm.Module(way="program", tell="shape", **SMALL)
         module.close()
         with self.assertRaisesRegex(ValueError, "^the module is closed$"):
             self.assertIsNone(module.shape)
@@ -275,7 +275,7 @@ class Streams(unittest.TestCase):
             module.bank_of(0)
 
     def test_what_has_ended_is_told_behind_a_close(self):
-        ended, faulty, killed = (pcm.Module(**SMALL) for _ in range(3))
+        ended, faulty, killed = (pcm.Module(way="program", **SMALL) for _ in range(3))
         ended.cut(3)
         self.assertEqual([1], [it.row for it in ended.finish()])
         ended.close()

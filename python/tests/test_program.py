@@ -205,7 +205,7 @@ class Faults(Rooms):
             (None, lambda module: module.read(0, -1), 1, "line",
              "row 1: the third field must be a line, 0 to 67108863 (a module has at most 67108864) in at most 8 digits, and is '-1'"),
         ):
-            with self.assertRaises(pcm.TraceError) as wrong, pcm.Module() as module:
+            with self.assertRaises(pcm.TraceError) as wrong, pcm.Module(way="program") as module:
                 hand_in(module)
                 module.finish()
             self.assertEqual((status, row, kind, why), (wrong.exception.status, wrong.exception.row, wrong.exception.kind, wrong.exception.why))
@@ -247,7 +247,7 @@ class Faults(Rooms):
                     module.write(0, 0, bytes(192 - size))
                 self.assertEqual(1, module.write(0, 0, bytes(size)))
                 self.assertEqual(size, module.shape.line if module.shape else size)
-        with pcm.Module(line=65) as module, self.assertRaisesRegex(pcm.UsageError, "--line 65: .* 64 or 128"):
+        with self.assertRaisesRegex(pcm.UsageError, "--line 65: .* 64 or 128"), pcm.Module(line=65) as module:
             self.assertEqual(1, module.write(0, 0, bytes(65)))
             module.settle(0)
 

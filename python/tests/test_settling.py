@@ -112,7 +112,7 @@ class Telling:
 
 class OverTheProgram(Waiting, Looking, Telling, unittest.TestCase):
     def test_a_shape_beside_words_that_are_none_is_a_fault(self):
-        with pcm.Module(tell="shape", lines=5) as module, self.assertRaises(pcm.UsageError):
+        with pcm.Module(way="program", tell="shape", lines=5) as module, self.assertRaises(pcm.UsageError):
             self.assertIsNone(module.shape)
 
     def test_a_row_that_was_not_handed_in_is_a_fault(self):
