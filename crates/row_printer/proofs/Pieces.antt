@@ -27,10 +27,10 @@ pub pieces-snapshot : (t : Reserved) (a b counts d e f g h k : List ℕ) →
 pieces-snapshot t a b counts d e f g h k = simp append_assoc
 
 -- the line of a shape, number by number, and what it tells besides
-pub pieces-shape : (t : Reserved) (version a b d e f g h rest : List ℕ) →
-    appended (appended (appended (appended (appended (appended (appended (appended (appended (appended (appended (appended t (codes ",shape,0,")) version) (codes ",")) (a ++ codes " ")) (b ++ codes " ")) (d ++ codes " ")) (e ++ codes " ")) (f ++ codes " ")) (g ++ codes " ")) h) rest) (codes "\n")
-    ≡ appended t (codes ",shape,0," ++ version ++ codes "," ++ join_with_byte 32 (a ∷ b ∷ d ∷ e ∷ f ∷ g ∷ h ∷ []) ++ rest ++ codes "\n")
-pieces-shape t version a b d e f g h rest = simp append_assoc
+pub pieces-shape : (t : Reserved) (word version comma a b d e f g h rest : List ℕ) →
+    appended (appended (appended (appended (appended (appended (appended (appended (appended (appended (appended t word) (version ++ comma)) (a ++ codes " ")) (b ++ codes " ")) (d ++ codes " ")) (e ++ codes " ")) (f ++ codes " ")) (g ++ codes " ")) h) rest) (codes "\n")
+    ≡ appended t (word ++ version ++ comma ++ join_with_byte 32 (a ∷ b ∷ d ∷ e ∷ f ∷ g ∷ h ∷ []) ++ rest ++ codes "\n")
+pieces-shape t word version comma a b d e f g h rest = simp append_assoc
 
 pub pieces-rest : (t : Reserved) (a b d e policy home : List ℕ) →
     appended (appended (appended (appended (appended (appended (appended (appended t (codes " ")) (a ++ codes " ")) (b ++ codes " ")) (d ++ codes " ")) (e ++ codes " ")) policy) (codes " ")) home

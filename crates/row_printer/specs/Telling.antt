@@ -24,9 +24,9 @@ home_word Guarded = codes "guarded"
 home_word Array = codes "array"
 
 -- the version of the row of a shape: 2 where it tells more than the shape
-abbrev pub version_text : Option ToldRest → List ℕ
-version_text None = codes "1"
-version_text (Some rest) = codes "2"
+abbrev pub version_of : Option ToldRest → ℕ
+version_of None = 1
+version_of (Some rest) = 2
 
 -- what it tells besides: the seed, after how many stores a gap moves, the ticks of a sense and of an iteration, the policy, and where registers are kept
 abbrev pub rest_text : Option ToldRest → List ℕ
@@ -39,7 +39,7 @@ rest_text (Some rest) =
 -- spares of a bank, bytes of a line, the writes that the queue of a bank holds, and the reads that may wait there; and what else is told
 abbrev pub shape_row : ℕ → ToldShape → List ℕ
 shape_row n shape =
-    codes ",shape,0," ++ version_text shape.rest ++ codes ","
+    codes ",shape,0," ++ decimal (version_of shape.rest) ++ codes ","
     ++ join_with_byte 32
     (decimal shape.banks ∷ decimal shape.regions ∷ decimal shape.lines ∷ decimal shape.spares ∷ decimal n ∷ decimal shape.writes ∷ decimal shape.reads ∷ [])
     ++ rest_text shape.rest ++ codes "\n"

@@ -1,7 +1,7 @@
 // The bytes of a stream's lines.
 ghost use Rattle.std.specs.Prelude.{◌≡◌, ◌+◌, ◌*◌, ◌≤◌, length};
 ghost use Rattle.pcm_io.specs.Reserved.{room_in, appended};
-ghost use Rattle.row_printer.specs.Telling.{bank_row, bytes_row, driven_text, home_word, mark_word, policy_word, rest_text, settled_row, shape_row, told_head, told_header, told_line, told_row, version_text, wear_row};
+ghost use Rattle.row_printer.specs.Telling.{bank_row, bytes_row, driven_text, home_word, mark_word, policy_word, rest_text, settled_row, shape_row, told_head, told_header, told_line, told_row, version_of, wear_row};
 
 use crate::told::{ArrayWear, Backlog, Mark, Newest, Told, ToldRest, ToldShape};
 use bank_shape::{Home, Policy};
@@ -30,15 +30,14 @@ pub fn print_head<const B: usize>(shape: Option<ToldShape>, text: &mut Text)
 }
 
 // The shape of a module whose lines have B bytes.
-#[tactic(auto, using(pcm_io::proofs::DigitLemmas::ten_digits))]
+#[tactic(auto, using(pcm_io::proofs::DigitLemmas::ten_digits, pcm_io::proofs::DigitLemmas::twenty_digits))]
 fn print_shape<const B: usize>(shape: &ToldShape, text: &mut Text)
     requires size { B ≤ 128 }
     requires room { 200 ≤ room_in text.old }
     ensures { text.new ≡ appended text.old (shape_row B shape.now) }
 {
     text.push(b",shape,0,");
-    text.push(version(&shape.rest));
-    text.push(b",");
+    text.push_number_then(version(&shape.rest), b",");
     text.push_number_then(shape.banks as u64, b" ");
     text.push_number_then(shape.regions as u64, b" ");
     text.push_number_then(shape.lines as u64, b" ");
@@ -51,13 +50,12 @@ fn print_shape<const B: usize>(shape: &ToldShape, text: &mut Text)
 }
 
 // The version of the row of a shape, by what else it tells.
-fn version(rest: &Option<ToldRest>) -> &'static [u8]
-    ensures text { result.now ≡ version_text rest.now }
-    ensures short { length result.now ≤ 1 }
+fn version(rest: &Option<ToldRest>) -> u64
+    ensures { result ≡ version_of rest.now }
 {
     match rest {
-        None => b"1",
-        Some(_) => b"2",
+        None => 1,
+        Some(_) => 2,
     }
 }
 

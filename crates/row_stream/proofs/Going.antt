@@ -304,14 +304,14 @@ module _ {n m e : ℕ} (raw : RawShape) (seed : ℕ) (asked : List (Asked n)) (m
   -- so is a peek
   pub serving-peek : (at line : ℕ) (new : ModuleState n m e) (after : ArrayState n m) (places2 : ℕ) (told1 told2 : List (Told n)) (shown2 : Shown) (snaps2 : List Snapshot)
       → places2 ≡ places → (outcomes : List (ℕ × Outcome n)) → told1 ≡ told ++ became outcomes → ComeByBanks raw seed false (events_in asked) raw.banks outcomes → told2 ≡ told1 ++ lines_of (Peek (record { tick = at; line = line })) new after
-      → new.shape ≡ module_.shape → new.seed ≡ module_.seed → new.finished ≡ false → new.tick ≡ at → module_.tick ≤ at → ((bank : ℕ) → bank < new.shape.banks → IsSomeAnd (slice_get new.banks bank) (IsAtTick at))
+      → new.shape ≡ module_.shape → new.seed ≡ module_.seed → new.finished ≡ false → new.tick ≡ at → module_.tick ≤ at → ((bank : ℕ) → bank < new.shape.banks → IsSomeAnd (slice_get new.banks bank) (IsAtTick at)) → line < total_of new.shape
       → at ≤ latest_tick → new.rows_below ≡ module_.rows_below
       → length (table_of places2 told1) ≡ length (table_of places told)
       → ((h : ℕ → List (TimedEvent n m)) (rows : List (AskedRow n)) → Replays h rows module_ array (table_of places told)
       → (added : ℕ → List (TimedEvent n m)) × Replays (λ bank. added bank ++ h bank) rows new after (table_of places2 told1))
       → shown2 ≡ shown → snaps2 ≡ snaps
       → (has : IsServing raw seed (Peek (record { tick = at; line = line }) ∷ asked) new after places2 told2 shown2 snaps2) × (told_before (Peek (record { tick = at; line = line })) asked (told_so_far has) ≡ told_so_far had)
-  serving-peek at line new after places2 told1 told2 shown2 snaps2 counts outcomes tells order tells2 shape seeded going tick rises settled in_time bound size leads shows snapped =
+  serving-peek at line new after places2 told1 told2 shown2 snaps2 counts outcomes tells order tells2 shape seeded going tick rises settled exists in_time bound size leads shows snapped =
       let lines : List (Told n) = lines_of (Peek (record { tick = at; line = line })) new after in
       let now = settled-served new after places2 told1 told2 lines (refl) counts tells2 shape seeded going bound size leads in
       let h : ℕ → List (TimedEvent n m) = λ bank. now.0 bank ++ had.history bank in
@@ -327,7 +327,7 @@ module _ {n m e : ℕ} (raw : RawShape) (seed : ℕ) (asked : List (Asked n)) (m
             refl,
             outcomes,
             order,
-            record { module_ = new; array = after; served = subst Q counted now.1; tick = tick; rises = omega (arith, had.tick, rises); settled = settled; reached = tt },
+            record { module_ = new; array = after; served = subst Q counted now.1; tick = tick; rises = omega (arith, had.tick, rises); settled = (settled, exists); reached = tt },
             tells2 ∙ ap (λ t. t ++ lines) tells,
             tt,
           );

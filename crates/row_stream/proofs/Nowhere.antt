@@ -17,7 +17,7 @@ use Rattle.right_runs.specs.Banks.{bank_of_line, line_in_bank}
 use Rattle.run_laws.proofs.Mixing.{lines_law}
 use Rattle.pcm_module.specs.{Asking.{asked_by, asked_for}, Replaying.{Replays, ReplaysIn}, Settling.IsAtTick, State.{ModuleState, bank_at, first_bank}}
 use Rattle.pcm_module.specs.Telling.{has_standing, rows_at}
-use Rattle.row_stream.{specs.Reaching.{CameBetween, CameBy, IsUnsetOrAt}, proofs.Ticks.{IsOrTells, done-between, done-by, done-there, first-told, own-done, told-own}}
+use Rattle.row_stream.{specs.Reaching.{CameBetween, CameBy, IsUnsetOrAt}, specs.Serving.IsFirstTurn, proofs.Ticks.{IsOrTells, done-between, done-by, done-there, first-told, own-done, told-own}}
 
 -- the bank of a module that is there
 pub at-bank : {n m e : ℕ} (module_ : ModuleState n m e) (bank : ℕ) (clock : ClockState n m e) → slice_get module_.banks bank ≡ Some clock → bank_at module_ bank ≡ clock
@@ -142,6 +142,23 @@ module _ {n m e : ℕ} (h : ℕ → List (TimedEvent n m)) (events : List (Event
       by (Some was) same there =
           let is_clock : was ≡ clock = cc in
           own (subst (λ (c : ClockState n m e). ReplaysIn module_ bank (h bank) (asked_for events) array results c) is_clock there)
+
+  -- and so does the first action in any bank
+  first-behind : (limit tick bank : ℕ) (o : Option (ClockState n m e)) → module_.tick < limit → bank < module_.shape.banks → slice_get module_.banks bank ≡ o → IsSomeAnd o (IsAtTick module_.tick)
+      → tick ≡ next_end limit (bank_at module_ bank) → module_.tick < tick
+  first-behind limit tick bank None below exists none at ends = absurd at
+  first-behind limit tick bank (Some clock) below exists found at ends =
+      let stood : clock.tick ≡ module_.tick = at in
+      let later = next-later bank limit clock exists found (omega (arith, stood, below)) in
+      let same : tick ≡ next_end limit clock = ends ∙ ap (λ (c : ClockState n m e). next_end limit c) (at-bank module_ bank clock found) in
+      omega (arith, later, same, stood)
+
+  pub first-later : (limit tick : ℕ) → module_.tick < limit → ((bank : ℕ) → bank < module_.shape.banks → IsSomeAnd (slice_get module_.banks bank) (IsAtTick module_.tick)) → IsFirstTurn limit module_ tick
+      → module_.tick < tick
+  first-later limit tick below settled turn = elim turn.2 [
+    | inl same ↦ omega (arith, same, below)
+    | inr found ↦ first-behind limit tick found.0 (slice_get module_.banks found.0) below found.1 refl (settled found.0 found.1) found.2
+  ]
 
   -- once all banks have come to a tick, ..
   module _ (new : ModuleState n m e) (after : ArrayState n m) (recorded : List (Outcome n)) (added : ℕ → List (TimedEvent n m))

@@ -80,7 +80,7 @@ module _ {n m e : ℕ} (raw : RawShape) (seed : ℕ) (asked : List (Asked n)) (m
   }
 
   -- the first turn
-  pub gone-first : (new : ModuleState n m e) (after : ArrayState n m) (places2 : ℕ) (told2 : List (Told n))
+  abbrev pub gone-first : (new : ModuleState n m e) (after : ArrayState n m) (places2 : ℕ) (told2 : List (Told n))
       → new.shape ≡ module_.shape → new.seed ≡ module_.seed → new.finished ≡ false → new.rows_below ≡ module_.rows_below → places2 ≡ places
       → length (table_of places2 told2) ≡ length (table_of places told)
       → ((h : ℕ → List (TimedEvent n m)) (rows : List (AskedRow n)) → Replays h rows module_ array (table_of places told)
@@ -129,7 +129,7 @@ module _ {n m e : ℕ} (raw : RawShape) (seed : ℕ) (asked : List (Asked n)) (m
         record { outcomes = came.outcomes; told = came.told; are = subst (λ k. Q raw k) gone.served.seeded (subst (λ r. Q r mid.seed) gone.served.shape came.are) }
 
     -- a turn more
-    pub gone-more : (new : ModuleState n m e) (after : ArrayState n m) (places2 : ℕ) (told2 : List (Told n))
+    abbrev pub gone-more : (new : ModuleState n m e) (after : ArrayState n m) (places2 : ℕ) (told2 : List (Told n))
         → new.shape ≡ mid.shape → new.seed ≡ mid.seed → new.finished ≡ false → new.rows_below ≡ mid.rows_below → places2 ≡ places1
         → length (table_of places2 told2) ≡ length (table_of places1 told1)
         → ((h : ℕ → List (TimedEvent n m)) (rows : List (AskedRow n)) → Replays h rows mid between (table_of places1 told1)
@@ -198,8 +198,7 @@ module _ {n m e : ℕ} (raw : RawShape) (seed : ℕ) (asked : List (Asked n)) (m
       let Q : ℕ → Type 0 = λ k. HasServed raw seed (events_in asked) h mid between (table_of k told2) in
       let T : ℕ → Type 0 = λ k. HasReached k until (outcome_in (table_of places2 told2) until.row) in
       let U : ℕ → Type 0 = λ k. HasReached (tick_reached asked) until (outcome_in (table_of k told2) until.row) in
-      let here : HasReached module_.tick until (outcome_in (table_of places2 told2) until.row) = subst (λ (results : List (Outcome n)). HasReached module_.tick until (outcome_in results until.row)) same reached in
-      (
+      let here : HasReached module_.tick until (outcome_in (table_of places2 told2) until.row) = subst (λ (results : List (Outcome n)). HasReached module_.tick until (outcome_in results until.row)) same reached in (
         record {
           history = h;
           along = (
@@ -240,8 +239,7 @@ module _ {n m e : ℕ} (raw : RawShape) (seed : ℕ) (asked : List (Asked n)) (m
       (subst (P places1) (sym tells) (ap (λ (o : List (ℕ × Outcome n)). recorded o (replicate places1 (none {n = n}))) (sym (outcomes-same told1 lines refl)))) in
       let R : List (Outcome n) → Type 0 = λ results. HasServed raw seed (events_in asked) h mid between results in
       let now : HasServed raw seed (events_in asked) h mid between (table_of places2 told2) = subst R same gone.served in
-      let Q : ℕ → Type 0 = λ k. HasServed raw seed (events_in asked) h mid between (table_of k told2) in
-      (
+      let Q : ℕ → Type 0 = λ k. HasServed raw seed (events_in asked) h mid between (table_of k told2) in (
         record {
           history = h;
           along = (

@@ -7,7 +7,7 @@ use Rattle.row_rules.specs.{Answers.is_queued, declared.Asks.Asks, declared.Asks
 use Rattle.trace_rows.specs.Rows.{asks_of}
 use Rattle.bank_model.specs.Timing.{TimedEvent}
 use Rattle.bank_timing.specs.Extending.{next_end}
-use Rattle.module_shape.specs.declared.raw.RawShape.{RawShape}
+use Rattle.module_shape.specs.{Limits.total_of, declared.raw.RawShape.RawShape}
 use Rattle.right_runs.specs.Banks.{bank_of_line}
 use Rattle.pcm_module.specs.{Asking.asked_for, Replaying.Replays, Settling.IsAtTick, State.{ModuleState, bank_at, stand_now}, Telling.{is_asked_of, rows_at}}
 use Rattle.row_printer.specs.{Printing.{Printing, table_of}, Snapshots.{AddsDue, is_due}, Telling.became, declared.snapshot.Snapshot.Snapshot, declared.told.Shown.Shown}
@@ -125,13 +125,14 @@ IsFirstTurn limit module_ tick =
     × ((tick ≡ limit) ⊎ ((bank : ℕ) × (bank < module_.shape.banks) × (tick ≡ next_end limit (bank_at module_ bank))))
 
 module _ {n m : ℕ} (e : ℕ) (raw : RawShape) (seed : ℕ) where
-  -- behind a settle, a query, a look or a peek each bank has come to its tick, and behind a settle until to the one that it reached
+  -- behind a settle, a query, a look or a peek each bank has come to its tick, and behind a settle until to the one that it reached; a peek is of a line of the module
   abbrev pub HasSettled : Asked n → ModuleState n m e → Type 0
   HasSettled (Happens event) module_ = Unit {0}
   HasSettled (Settle tick) module_ = (bank : ℕ) → bank < module_.shape.banks → IsSomeAnd (slice_get module_.banks bank) (IsAtTick tick)
   HasSettled (Query tick) module_ = (bank : ℕ) → bank < module_.shape.banks → IsSomeAnd (slice_get module_.banks bank) (IsAtTick tick)
   HasSettled (Look tick) module_ = (bank : ℕ) → bank < module_.shape.banks → IsSomeAnd (slice_get module_.banks bank) (IsAtTick tick)
-  HasSettled (Peek peek) module_ = (bank : ℕ) → bank < module_.shape.banks → IsSomeAnd (slice_get module_.banks bank) (IsAtTick peek.tick)
+  HasSettled (Peek peek) module_ =
+      ((bank : ℕ) → bank < module_.shape.banks → IsSomeAnd (slice_get module_.banks bank) (IsAtTick peek.tick)) × (peek.line < total_of module_.shape)
   HasSettled (Until until) module_ = (bank : ℕ) → bank < module_.shape.banks → IsSomeAnd (slice_get module_.banks bank) (IsAtTick until.reached)
   HasSettled (UntilAny until) module_ = (bank : ℕ) → bank < module_.shape.banks → IsSomeAnd (slice_get module_.banks bank) (IsAtTick until.reached)
 

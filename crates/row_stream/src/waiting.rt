@@ -72,38 +72,70 @@ pub fn serve_until_any<
         → IsPrinting K.written K.faults before first out.old
         → IsPrinting K.written K.faults before first out.new }
 {
+    out.listen();
+    wait_for_any(pcm, array, until, out);
+}
+
+// So, where the printer listens, and has heard no outcome yet.
+fn wait_for_any<
+    const B: usize,
+    const M: usize,
+    const E: usize,
+    A: TellsWear<B, M, E>,
+    K: Sink + Drop,
+>(pcm: &mut Module<B, M, E>, array: &mut A, until: &UntilAny, out: &mut RowPrinter<B, K>)
+    requires layout { IsLayout B M E }
+    requires rises { pcm.old.tick ≤ until.now.limit }
+    requires in_time { until.now.limit ≤ latest_tick }
+    requires listens { out.old.heard ≡ false }
+    requires serving { MayServe pcm.old (A.state array.old) out.old }
+    ensures serves { ServesOn (λ before. Awaits (record {
+      limit = until.now.limit;
+      reached = pcm.new.tick;
+    })) pcm.old pcm.new (A.state array.old) (A.state array.new) out.old out.new }
+    ensures printing { (before : Option (List ℕ)) (first : ℕ)
+        → IsPrinting K.written K.faults before first out.old
+        → IsPrinting K.written K.faults before first out.new }
+{
     // Its sizes make known that each line's bank is one of the module's.
     let _ = pcm.shape();
-    out.listen();
     let tick = pcm.tick();
     pcm.settle(array, tick, out);
     out.tells_once();
-    'turns: while !out.heard() && pcm.tick() < until.limit {
-        let next = first_end(pcm, until.limit);
+    'turns: while let Some(next) = next_turn(pcm, until.limit, out) {
         pcm.settle(array, next, out);
         out.tells_once();
     }
     out.settled(pcm.tick());
 }
 
-// The first tick at which an action ends that runs in any bank, but at most this one.
-fn first_end<const B: usize, const M: usize, const E: usize>(
+// The tick at which the first action ends from now on, where no outcome was heard and there may still be waited.
+fn next_turn<const B: usize, const M: usize, const E: usize, K: Sink + Drop>(
     pcm: &Module<B, M, E>,
     limit: u64,
-) -> u64
+    out: &RowPrinter<B, K>,
+) -> Option<u64>
     requires layout { IsLayout B M E }
-    requires within { pcm.now.tick ≤ limit }
+    requires in_time { limit ≤ latest_tick }
     requires settled { (bank : ℕ) → bank < pcm.now.shape.banks
         → IsSomeAnd (slice_get pcm.now.banks bank) (IsAtTick pcm.now.tick) }
-    requires in_time { limit ≤ latest_tick }
-    ensures first { IsFirstTurn limit pcm.now result }
+    ensures some { IfSome result (λ tick. (out.now.heard ≡ false)
+        × IsFirstTurn limit pcm.now tick × (pcm.now.tick < limit)) }
+    ensures none { result ≡ None → (out.now.heard ≡ true) ⊎ (limit ≤ pcm.now.tick) }
     ensures shape { IsShape pcm.now.shape }
 {
+    let banks = pcm.shape().banks();
+    if out.heard() {
+        return None;
+    }
+    if limit <= pcm.tick() {
+        return None;
+    }
     let mut first = limit;
-    for bank in 0..pcm.shape().banks() {
+    for bank in 0..banks {
         first = first.min(pcm.timed(bank).next_end(limit));
     }
-    first
+    Some(first)
 }
 
 // The bank where the row stands that is waited for, where there may still be waited.

@@ -27,7 +27,7 @@ returns-clause-serves g c = record {
       let order = banks-order raw seed before c.args.pcm.now (g.A.CellArray.state c.args.array.now) c.args.out.now.rows c.args.out.now.told c.args.out.now.prints c.args.out.now.snapshots had false g.K.Sink.written g.K.Sink.faults c.args.out.now c.settle.new.results c.tells_once.ensures e.order in
       serving-peek raw seed before c.args.pcm.now (g.A.CellArray.state c.args.array.now) c.args.out.now.rows c.args.out.now.told c.args.out.now.prints c.args.out.now.snapshots had tick line
       c.settle.new.self (g.A.CellArray.state c.settle.new.array) c.settled.new.self.rows was c.settled.new.self.told c.settled.new.self.prints c.settled.new.self.snapshots
-      (same ∙ on.rows) order.outcomes order.told order.are (lines-both was c.peeked.new.self.told c.settled.new.self.told (Peeked tick (newest stands) ∷ []) (Settled tick ∷ []) peeked c.settled.ensures.told) e.shape e.seed e.going e.tick c.requires.rises e.settled c.requires.in_time e.rows (rw same e.table) (rw same e.replays)
+      (same ∙ on.rows) order.outcomes order.told order.are (lines-both was c.peeked.new.self.told c.settled.new.self.told (Peeked tick (newest stands) ∷ []) (Settled tick ∷ []) peeked c.settled.ensures.told) e.shape e.seed e.going e.tick c.requires.rises e.settled (rw e.shape c.requires.exists) c.requires.in_time e.rows (rw same e.table) (rw same e.replays)
       (c.settled.ensures.prints ∙ c.peeked.ensures.prints ∙ on.prints) (c.settled.ensures.snapshots ∙ c.peeked.ensures.snapshots ∙ on.snapshots);
   prints = c.settled.ensures.prints ∙ c.peeked.ensures.prints ∙ c.settle.ensures.goes_on.prints;
   wear = c.settle.ensures.stays.wear;
