@@ -1,5 +1,5 @@
 -- What one line more makes of a printer.
-use Rattle.std.proofs.Common.{◌≡◌, ℕ, ◌^◌, ◌<◌, ◌≤◌, ◌||◌, Bool, List, [], ◌∷◌, ◌++◌, Option, true, false, Some, length, replicate, append_assoc, refl, ap, sym, subst, ◌∙◌, arith}
+use Rattle.std.proofs.Common.{◌≡◌, ℕ, ◌^◌, ◌<◌, ◌≤◌, List, [], ◌∷◌, ◌++◌, Option, true, false, Some, length, replicate, append_assoc, refl, ap, sym, subst, ◌∙◌, arith}
 use Rattle.std.{specs.Prelude.{IsTrue, is_some}, proofs.lemmas.List.length-replicate}
 use Rattle.pcm_io.{specs.Faults.Rose, specs.Giving.AppendsPrefix, specs.Reserved.{Reserved, appended}, proofs.ByteLemmas.AppendsPrefix-longer}
 use Rattle.result_rows.specs.{Outcomes.op_of, Table.{HasRow, outcome_at, with_outcome}, declared.Outcome.Outcome, declared.Outcome.TheVariants.Unset}
@@ -123,8 +123,3 @@ few-counted {n = n} rows told row counts fits is unset =
     let none : List (Outcome n) = replicate rows Unset in
     let size : length (table_of rows told) ≡ rows = length-recorded (outcomes_in told) none ∙ length-replicate rows Unset in
     rw is (counted-below (table_of rows told) row 4294967295 unset (omega (arith, size, fits)))
-
--- an outcome that is told is heard, whatever was heard before
-pub heard-one : (heard : Bool) → true ≡ (heard || true)
-heard-one true = refl
-heard-one false = refl

@@ -1,6 +1,6 @@
 -- Whether an outcome was told since a printer listens.
-use Rattle.std.proofs.Common.{◌≡◌, ◌≢◌, ℕ, ◌+◌, ◌||◌, ◌<◌, ◌≤◌, Bool, true, false, List, [], ◌∷◌, ◌++◌, length, Option, Some, refl, sym, ap, ◌∙◌, subst, arith}
-use Rattle.std.{specs.Prelude.All, proofs.lemmas.List.length-append, proofs.lemmas.List.Elements.All-weaker}
+use Rattle.std.proofs.Common.{◌≡◌, ◌≢◌, ℕ, suc, ◌||◌, ◌<◌, Bool, true, false, List, [], ◌∷◌, ◌++◌, length, Option, Some, refl, sym, ap, ◌∙◌, arith}
+use Rattle.std.{specs.Prelude.All, proofs.lemmas.List.length-append}
 use Rattle.result_rows.specs.{Outcomes.tick_of, declared.Outcome.Outcome}
 use Rattle.row_printer.specs.{Printing.{Printing, PrintsOn}, Telling.{became, some_told}, declared.told.Told.Told}
 use Rattle.row_stream.{specs.Reaching.CameBetween, proofs.Order.ToldSo}
@@ -8,7 +8,7 @@ use Rattle.row_stream.{specs.Reaching.CameBetween, proofs.Order.ToldSo}
 module _ {n : ℕ} where
   length-became : (xs : List (ℕ × Outcome n)) → length (became xs) ≡ length xs
   length-became [] = refl
-  length-became (x ∷ xs) = ap (λ k. 1 + k) (length-became xs)
+  length-became (x ∷ xs) = ap suc (length-became xs)
 
   -- the same lines tell of an outcome
   as-told : (old : List (Told n)) (xs ys : List (ℕ × Outcome n)) → old ++ became xs ≡ old ++ became ys → some_told xs ≡ some_told ys

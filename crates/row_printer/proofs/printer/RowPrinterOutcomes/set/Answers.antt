@@ -1,5 +1,5 @@
 use Rattle.std.proofs.Common.{rules, arith, [], ◌∷◌, refl}
-use Rattle.row_printer.{specs.Telling.outcomes_in, proofs.Rows.{heard-one, tells-next, table-set, set-counted, few-counted}, proofs.Telling.outcomes-more}
+use Rattle.row_printer.{specs.Telling.outcomes_in, proofs.Rows.{tells-next, table-set, set-counted, few-counted}, proofs.Telling.{heard-one, outcomes-more}}
 use Rattle.ghost_list.specs.Items.{items}
 use Rattle.row_printer.proofs.printer.RowPrinterOutcomes.set.Goals as goal
 
