@@ -1,11 +1,13 @@
 ghost use Rattle.row_printer.specs.Snapshots.{IsShown};
 
 use crate::expected::{assert_text, compare};
+use bank_shape::{Home, Policy};
 use cell_rows::LineEnergy;
 use pcm_io::{MemSink, MemSource, NeverFailSource, Text};
 use result_rows::{Outcome, Outcomes};
-use bank_shape::{Home, Policy};
-use row_printer::{ArrayWear, Backlog, Mark, Newest, RowPrinter, Shown, Snapshot, ToldRest, ToldShape};
+use row_printer::{
+    ArrayWear, Backlog, Mark, Newest, RowPrinter, Shown, Snapshot, ToldRest, ToldShape,
+};
 use std::alloc::{AllocError, Global};
 use std::process::Abort;
 use std::test::Fail;
@@ -38,10 +40,7 @@ static ASKED: [Asked<64>; 8] = [
         limit: 9,
         reached: 4,
     }),
-    Asked::Peek(Peek {
-        tick: 5,
-        line: 3,
-    }),
+    Asked::Peek(Peek { tick: 5, line: 3 }),
     Asked::Happens(Event {
         tick: 5,
         op: EventOp::Cut,
@@ -61,7 +60,8 @@ fn compare_asked(
 
 #[test]
 fn rows_come_in_order(rt: HostRuntime) {
-    let text = b"tick,op,arg,data\n\n3,R,1,\r\n\"3\",S,,\n4,Q,,\n4,L,,\n8,U,01,\n9,U,,\n5,P,03,\n5,C,,";
+    let text =
+        b"tick,op,arg,data\n\n3,R,1,\r\n\"3\",S,,\n4,Q,,\n4,L,,\n8,U,01,\n9,U,,\n5,P,03,\n5,C,,";
     compare_asked(&rt, read(rt.alloc(), text, 9), &ASKED);
 }
 
@@ -285,7 +285,8 @@ fn more_of_a_module_stands_behind_its_shape(rt: HostRuntime) -> Result<(), Fail>
     whole.rest = Some(REST);
     let (sink, _counted) = told(rt.alloc(), Shown::Rows(Some(whole)))?;
     let written = sink.written();
-    let head = b"row,outcome,tick,place,data\n,shape,0,2,64 1 1048576 1024 64 256 3 18446744073709551615 100 5 255 cancel guarded\n2,busy,5,,\n";
+    let head =
+        b"row,outcome,tick,place,data\n,shape,0,2,64 1 1048576 1024 64 256 3 18446744073709551615 100 5 255 cancel guarded\n2,busy,5,,\n";
     assert_text(&rt, &written[..head.len().min(written.len())], head);
     Ok(())
 }

@@ -24,9 +24,9 @@ returns-clause-serves g c = record {
       let new = c.wait_for_any.new.pcm in
       let row = UntilAny (record { limit = c.args.until.now.limit; reached = new.tick }) in
       let P : ℕ → List (Told g.row.B) → Shown → List Snapshot → Type 0 = λ k t p z.
-          (had : IsServing {n = g.row.B} {m = g.row.M} {e = g.row.E} raw seed asked c.args.pcm.now (g.A.CellArray.state c.args.array.now) k t p z)
-          → (has : IsServing raw seed (row ∷ asked) new (g.A.CellArray.state c.wait_for_any.new.array) now.rows now.told now.prints now.snapshots)
-          × (told_before row asked (told_so_far has) ≡ told_so_far had) in
+      (had : IsServing {n = g.row.B} {m = g.row.M} {e = g.row.E} raw seed asked c.args.pcm.now (g.A.CellArray.state c.args.array.now) k t p z)
+      → (has : IsServing raw seed (row ∷ asked) new (g.A.CellArray.state c.wait_for_any.new.array) now.rows now.told now.prints now.snapshots)
+      × (told_before row asked (told_so_far has) ≡ told_so_far had) in
       told-same P was.rows out.rows was.told out.told was.prints out.prints was.snapshots out.snapshots (sym listens.rows) (sym listens.told) (sym listens.prints) (sym listens.snapshots)
       (c.wait_for_any.ensures.serves.serving raw seed asked);
   prints = c.wait_for_any.ensures.serves.prints ∙ c.listen.ensures.prints;

@@ -32,7 +32,7 @@ turns-init g c =
           turn-so raw seed asked c.args.pcm.now state out.rows out.told out.prints out.snapshots had (IsFirstTurn limit) written faults (λ o. CameBy c.tick-tick.result o) out results on.rows had.served.size
           c.tells_once.ensures order changes in (
             gone-first raw seed asked c.args.pcm.now state out.rows out.told out.prints out.snapshots had (IsFirstTurn limit) c.settle.new.self after results.rows results.told
-            e.shape e.seed e.going e.rows on.rows e.table e.replays c.tick-tick.result c.tick-tick.ensures e.tick e.settled so,
+                e.shape e.seed e.going e.rows on.rows e.table e.replays c.tick-tick.result c.tick-tick.ensures e.tick e.settled so,
             heard-told written faults out results on _ so c.requires.listens,
             inl (e.tick ∙ c.tick-tick.ensures),
           );
@@ -104,7 +104,7 @@ turns-preserved g c =
           } in
           let none : some_told gone.outcomes ≡ false = sym was.1 ∙ some.0 in (
             gone-more raw seed asked c.args.pcm.now at_first out.rows out.told out.prints out.snapshots had (IsFirstTurn limit) c.turns.pcm state stood.rows stood.told gone
-            c.settle-in-Some.new.self after results.rows results.told e.shape e.seed e.going e.rows on.rows e.table e.replays next rises e.tick e.settled some.1 between,
+                c.settle-in-Some.new.self after results.rows results.told e.shape e.seed e.going e.rows on.rows e.table e.replays next rises e.tick e.settled some.1 between,
             heard-told written faults stood results on _ so some.0 ∙ some-more gone.outcomes so.outcomes none,
             inr (subst (λ (t : ℕ). All (λ one. tick_of one.1 ≡ Some t) (gone.outcomes ++ so.outcomes)) (sym e.tick) (all-behind (λ o. tick_of o ≡ Some next) gone.outcomes so.outcomes none so.are.1)),
           );
