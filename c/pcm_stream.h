@@ -23,8 +23,9 @@
    With PCM_STREAM_LIBRARY defined before it is included, and pcm.h and pcm_stream_library.h beside it, the module is in the caller's own process, by
    the library (pcm.h): no program is started, and the words in front of the first option are passed over. Functions and answers are the same, but:
    a row is served as it is handed in, so what is wrong with it shows at once; options are those of a module, and of others only their defaults
-   (`--end drain`, `--until end`, `--input source`) and `--tell shape`: any other shows as one that the program refuses; copies (pcm_copy.h) answer
-   PCM_FAILED, with ENOTSUP; pcm_next, which would wait for ever where no outcome is to come, answers PCM_REFUSED; PCM_FULL comes
+   (`--end drain`, `--until end`, `--input source`), `--tell shape` and `--tell module`: any other shows as one that the program refuses;
+   pcm_peek and pcm_settle_any answer PCM_FAILED, with ENOTSUP, and so do copies (pcm_copy.h); pcm_next, which would wait for ever where no
+   outcome is to come, answers PCM_REFUSED; PCM_FULL comes
    where PCM_MOST_SETTLES settles wait to be taken, and never else; memory is allocated; and nothing is left to send where pcm_close comes.
 
    A struct pcm is the caller's: it holds two descriptors, a process, and two buffers (some 80 KiB together), and must not be moved while it is
@@ -125,9 +126,13 @@ struct pcm_wear {
 /* The number of no bank. */
 #define PCM_NO_BANK UINT32_MAX
 
-/* What a module is, where the program tells it (`--tell shape`); all 0 until then. */
+/* Which line writes give way to a read that comes, and where a bank keeps its registers: in the order of the library's values. */
+enum pcm_policy { PCM_PAUSE, PCM_PLAIN, PCM_CANCEL };
+enum pcm_home { PCM_GUARDED, PCM_ARRAY };
+
+/* What a module is, where the program tells it (`--tell shape` or `--tell module`); all 0 until then. */
 struct pcm_shape {
-    uint32_t version;     /* of the stream's format: 1 */
+    uint32_t version;     /* of what is told: 1, or 2 by `--tell module` */
     uint32_t banks;
     uint32_t regions;     /* of a bank */
     uint32_t lines;       /* of a region */
@@ -135,6 +140,16 @@ struct pcm_shape {
     uint32_t line;        /* the bytes of a line */
     uint32_t write_queue; /* the writes that a bank's queue holds */
     uint32_t read_queue;  /* the reads that may wait at a bank */
+};
+
+/* What it is besides, by `--tell module`; all 0 until then. */
+struct pcm_rest {
+    uint64_t seed;       /* of the randomiser, and of how cells wear */
+    uint32_t psi;        /* the stores in a region behind which its gap moves */
+    uint32_t read_ticks; /* of a sense */
+    uint32_t iter_ticks; /* of an iteration of a line write */
+    enum pcm_policy policy;
+    enum pcm_home home;
 };
 
 /* What spreads lines over the banks (FORMATS.md, 'The randomiser's words'). */
@@ -152,7 +167,7 @@ struct pcm_outcome {
     uint8_t bytes[PCM_MOST_BYTES];
 };
 
-/* The caller's own: what takes a row's text, its end among its `size` bytes, as it is sent: `op` is R, W, M or C, or S, Q, U or L of a row that
+/* The caller's own: what takes a row's text, its end among its `size` bytes, as it is sent: `op` is R, W, M or C, or S, Q, U, L or P of a row that
    settles. The first four, behind the header `tick,op,arg,data`, are a trace that plays the same again by the same options (pcm_replay); but with
    `--end off`, where a settle came last, its cut comes at the tick of the trace's last row, unless the caller ends with pcm_cut. The text is only
    lent. */
@@ -170,9 +185,11 @@ struct pcm {
                               refused row) */
     uint32_t line_size;    /* the bytes of a line, by the words of pcm_open, or by the shape. Where the program was told so otherwise, the caller
                               sets it; 0: any */
-    int tells_shape;       /* whether the words of pcm_open have `--tell shape`. Where the program was told so otherwise, the caller sets it */
+    int tells_shape;       /* whether the words of pcm_open have `--tell shape` or `--tell module`. Where the program was told so otherwise, the caller sets it */
     struct pcm_shape shape; /* behind pcm_learn: what the module is */
-    uint64_t seed;         /* by the words of pcm_open. Where the program was told so otherwise, the caller sets it before any other call */
+    struct pcm_rest rest;   /* behind pcm_learn, where it is told: what it is besides */
+    uint64_t seed;         /* by the words of pcm_open, or by what `--tell module` tells. Where the program was told so otherwise, the caller sets it
+                              before any other call */
     struct pcm_randomiser randomiser; /* behind pcm_learn: that of the shape and the seed */
     uint64_t tick;         /* of the last row or settle; behind pcm_settle_until the one that was reached */
     uint32_t settles;      /* how many were sent, those of calls that take all among them, whose PCM_SETTLED wasn't taken yet */
@@ -183,6 +200,7 @@ struct pcm {
 #ifdef PCM_STREAM_LIBRARY
     struct pcm_module module;
     struct pcm_shape told;  /* what pcm_learn tells */
+    struct pcm_rest told_besides;
     int ends_with;          /* not 0: the status with which the program would have ended here; no more rows are taken */
     int falls_short;        /* whether an outcome that was taken is full, worn, busy, lost or queued */
     uint64_t taken;         /* how many outcomes were */
@@ -208,7 +226,8 @@ static inline enum pcm_result pcm_open(struct pcm *pcm, const char *const words[
 /* The same with a process group of the program's own: what a terminal sends (Ctrl-C, a hang-up) reaches the caller alone, and the program
    ends once the caller has closed it or has ended. */
 static inline enum pcm_result pcm_open_apart(struct pcm *pcm, const char *const words[]);
-/* What the module is, where the program was started with `--tell shape`: it waits for that, and puts it into pcm->shape. From then on a line
+/* What the module is, where the program was started with `--tell shape` or `--tell module`: it waits for that, and puts it into pcm->shape, and what is
+   told besides into pcm->rest. From then on a line
    that the module hasn't is refused by each call, and a line's size is the module's own, whatever the words said. PCM_OTHER where a number of
    `wanted` that isn't 0 is another (NULL: all are right); the module goes on. PCM_REFUSED where the program doesn't tell its shape. Call it
    behind pcm_open, or at any time. */
@@ -237,6 +256,13 @@ static inline enum pcm_result pcm_ask(struct pcm *pcm, uint64_t tick, struct pcm
    which that is known, and to `tick` where it isn't by then (a write that stays queued has none before the end). pcm.tick is then the tick
    that was reached, and the next row may have any tick from there on. A row whose outcome is known leaves the module where it stands. */
 static inline enum pcm_result pcm_settle_until(struct pcm *pcm, uint32_t row, uint64_t tick, pcm_taker take, void *context);
+/* The same, but until any row has its outcome that hadn't one: to the first tick, from the one at which the module stands, behind which something
+   is to tell, and to `tick` where nothing is by then. */
+static inline enum pcm_result pcm_settle_any(struct pcm *pcm, uint64_t tick, pcm_taker take, void *context);
+/* The same as pcm_settle_all, and the newest bytes of a line are put into `bytes`, as many as a line has (PCM_SIZE: `size` is another): those that
+   the module accepted last, wherever they are. It is a debugger's look: no line is sensed for it, and at the tick at which the module stands
+   (pcm.tick) none passes. */
+static inline enum pcm_result pcm_peek(struct pcm *pcm, uint64_t tick, uint32_t line, uint8_t *bytes, size_t size, pcm_taker take, void *context);
 /* The same as pcm_settle_all, and how worn the module is then is put into `wear`. It goes over all array lines: of a large module it takes
    time. */
 static inline enum pcm_result pcm_look(struct pcm *pcm, uint64_t tick, struct pcm_wear *wear, pcm_taker take, void *context);
@@ -406,19 +432,25 @@ static inline uint32_t pcm_bank_of(const struct pcm *pcm, uint32_t line)
     return is_here ? pcm__bank_of(&pcm->randomiser, line) : PCM_NO_BANK;
 }
 
+/* Whether a row is a settle until any row has its outcome: it is one until (U) that names none. */
+static inline int pcm__is_any(char op)
+{
+    return op == 'A';
+}
+
 /* Whether a row of this operation may name this number: a row that came before, a line, or nothing. */
 static inline int pcm__is_known(const struct pcm *pcm, char op, uint32_t number)
 {
     const struct pcm_shape *shape = &pcm->shape;
     if (op == 'U')
         return number > 0 && number <= pcm->rows;
-    return shape->version == 0 || number < (uint64_t)shape->banks * shape->regions * shape->lines;
+    return pcm__is_any(op) || shape->version == 0 || number < (uint64_t)shape->banks * shape->regions * shape->lines;
 }
 
 /* A row that is handed in. */
 struct pcm__row {
     uint64_t tick;
-    char op;                     /* R, W, M or C, or S, Q, U or L of one that settles */
+    char op;                     /* R, W, M or C, or S, Q, U, L or P of one that settles, or A of a settle until any row has its outcome */
     uint32_t number;             /* its line, or the row of a settle until; where it has none, 0 */
     const uint8_t *bytes, *given; /* of a write: its bytes, and of a masked one which of them it gives */
     size_t size;                 /* how many these are */
@@ -427,7 +459,7 @@ struct pcm__row {
 
 static inline int pcm__settles(char op)
 {
-    return op == 'S' || op == 'Q' || op == 'U' || op == 'L';
+    return op == 'S' || op == 'Q' || op == 'U' || op == 'L' || op == 'P' || pcm__is_any(op);
 }
 
 /* Whether a row may come now. */
@@ -442,9 +474,9 @@ static inline char *pcm__put_row(char *at, const struct pcm__row *row)
 {
     at = pcm__put_number(at, row->tick);
     *at++ = ',';
-    *at++ = row->op;
+    *at++ = pcm__is_any(row->op) ? 'U' : row->op;
     *at++ = ',';
-    if (row->op == 'U' || (row->op != 'C' && !pcm__settles(row->op)))
+    if (row->op == 'U' || row->op == 'P' || (row->op != 'C' && !pcm__settles(row->op)))
         at = pcm__put_number(at, row->number);
     *at++ = ',';
     if (row->digits == NULL)
@@ -458,14 +490,14 @@ static inline char *pcm__put_row(char *at, const struct pcm__row *row)
 /* A row is one of those that were handed in, and is logged by its text, of so many bytes. */
 static inline void pcm__count(struct pcm *pcm, const struct pcm__row *row, const char *text, size_t size)
 {
-    if (row->op != 'U')
+    if (row->op != 'U' && !pcm__is_any(row->op))
         pcm->tick = row->tick;
     if (pcm__settles(row->op))
         pcm->settles++;
     else
         pcm->rows++;
     if (pcm->log != NULL)
-        pcm->log(pcm->context, row->op, text, size);
+        pcm->log(pcm->context, pcm__is_any(row->op) ? 'U' : row->op, text, size);
 }
 
 /* What is known of a module by the words of pcm_open. PCM_REFUSED where they print anything but outcomes. */
@@ -475,7 +507,7 @@ static inline enum pcm_result pcm__begin(struct pcm *pcm, const char *const word
     pcm->to = pcm->from = -1;
     pcm->process = -1;
     pcm->line_size = strcmp(pcm__value(words, "--line", "64"), "128") == 0 ? 128 : 64; /* (all other values are refused) */
-    pcm->tells_shape = strcmp(pcm__value(words, "--tell", "nothing"), "shape") == 0;
+    pcm->tells_shape = strcmp(pcm__value(words, "--tell", "nothing"), "shape") == 0 || strcmp(pcm__value(words, "--tell", "nothing"), "module") == 0;
     pcm->seed = strtoull(pcm__value(words, "--seed", "0"), NULL, 10);
     if (strcmp(pcm__value(words, "--print", "rows"), "rows") == 0)
         return PCM_OK;
@@ -484,20 +516,24 @@ static inline enum pcm_result pcm__begin(struct pcm *pcm, const char *const word
 }
 
 /* The module's shape is known. */
-static inline void pcm__know(struct pcm *pcm, const struct pcm_shape *shape)
+static inline void pcm__know(struct pcm *pcm, const struct pcm_shape *shape, const struct pcm_rest *rest)
 {
     pcm->shape = *shape;
+    pcm->rest = *rest;
     pcm->line_size = shape->line;
+    if (shape->version > 1)
+        pcm->seed = rest->seed;
     pcm->randomiser = pcm__randomiser(shape->banks, shape->regions * shape->lines, pcm->seed);
 }
 
 /* What a row that settles asks for besides, and where that is put. */
 struct pcm__asks {
-    char op;                /* S, Q, U or L */
-    uint32_t row;           /* of U; else 0 */
+    char op;                /* S, Q, U, L, P or A */
+    uint32_t row;           /* of U; of P the line; else 0 */
     struct pcm_bank *banks; /* of Q: the first `count` */
     size_t count;
     struct pcm_wear *wear;  /* of L */
+    uint8_t *bytes;         /* of P */
 };
 
 #ifdef PCM_STREAM_LIBRARY
@@ -778,16 +814,68 @@ static inline enum pcm_result pcm__wear(const char *at, struct pcm_wear *wear)
     return PCM_OK;
 }
 
+/* Which of some words stands here, up to this end; NULL where none does, or behind it. */
+static inline const char *pcm__word(const char *at, char end, const char *const words[], int count, int *which)
+{
+    for (*which = 0; *which < count; ++*which) {
+        size_t size = strlen(words[*which]);
+        if (strncmp(at, words[*which], size) == 0 && at[size] == end)
+            return at + size + (end != 0);
+    }
+    return NULL;
+}
+
+/* Reads what a module is besides its shape, up to the end of a line. */
+static inline enum pcm_result pcm__besides(const char *at, struct pcm_rest *rest)
+{
+    static const char *const policies[] = {"pause", "plain", "cancel"}, *const homes[] = {"guarded", "array"};
+    uint64_t it[4];
+    int policy, home;
+    for (int i = 0; i < 4; i++)
+        if (*at < '0' || *at > '9' || (at = pcm__number(at, ' ', &it[i])) == NULL)
+            return PCM_GARBLED;
+    if ((at = pcm__word(at, ' ', policies, 3, &policy)) == NULL || pcm__word(at, 0, homes, 2, &home) == NULL)
+        return PCM_GARBLED;
+    rest->seed = it[0];
+    rest->psi = (uint32_t)it[1];
+    rest->read_ticks = (uint32_t)it[2];
+    rest->iter_ticks = (uint32_t)it[3];
+    rest->policy = (enum pcm_policy)policy;
+    rest->home = (enum pcm_home)home;
+    return PCM_OK;
+}
+
 /* Reads what the module is, behind the word of its line. */
 static inline enum pcm_result pcm__shape(struct pcm *pcm, const char *at)
 {
+    struct pcm_rest rest;
     uint64_t tick, version, it[7];
-    if ((at = pcm__number(at, ',', &tick)) == NULL || (at = pcm__number(at, ',', &version)) == NULL || pcm__numbers(at, it, 7) != PCM_OK
-        || version == 0 || it[4] == 0 || it[4] > PCM_MOST_BYTES)
+    memset(&rest, 0, sizeof rest);
+    if ((at = pcm__number(at, ',', &tick)) == NULL || (at = pcm__number(at, ',', &version)) == NULL || version == 0)
+        return PCM_GARBLED;
+    for (int i = 0; i < 7; i++)
+        if (*at < '0' || *at > '9' || (at = pcm__number(at, version > 1 || i < 6 ? ' ' : 0, &it[i])) == NULL)
+            return PCM_GARBLED;
+    if (it[4] == 0 || it[4] > PCM_MOST_BYTES || (version > 1 && pcm__besides(at, &rest) != PCM_OK))
         return PCM_GARBLED;
     const struct pcm_shape found = {(uint32_t)version, (uint32_t)it[0], (uint32_t)it[1], (uint32_t)it[2],
                                     (uint32_t)it[3],   (uint32_t)it[4], (uint32_t)it[5], (uint32_t)it[6]};
-    pcm__know(pcm, &found);
+    pcm__know(pcm, &found, &rest);
+    return PCM_OK;
+}
+
+/* Reads the newest bytes of a line, behind the word of their own, and puts them where they are wanted. */
+static inline enum pcm_result pcm__newest(const struct pcm *pcm, const char *at, uint8_t *bytes)
+{
+    uint64_t tick, line;
+    uint8_t found[PCM_MOST_BYTES];
+    if ((at = pcm__number(at, ',', &tick)) == NULL || (at = pcm__number(at, ',', &line)) == NULL)
+        return PCM_GARBLED;
+    int size = pcm__get_bytes(at, found);
+    if (size <= 0 || (pcm->line_size != 0 && (uint32_t)size != pcm->line_size))
+        return PCM_GARBLED;
+    if (bytes != NULL)
+        memcpy(bytes, found, (size_t)size);
     return PCM_OK;
 }
 
@@ -843,6 +931,8 @@ static inline int pcm__is_aside(struct pcm *pcm, const char *line, const struct 
         *result = pcm__bank(line + 6, asks == NULL ? NULL : asks->banks, asks == NULL ? 0 : asks->count);
     else if (strncmp(line, ",wear,", 6) == 0)
         *result = pcm__wear(line + 6, asks == NULL ? NULL : asks->wear);
+    else if (strncmp(line, ",bytes,", 7) == 0)
+        *result = pcm__newest(pcm, line + 7, asks == NULL ? NULL : asks->bytes);
     else if (strncmp(line, ",shape,", 7) == 0)
         *result = pcm__shape(pcm, line + 7);
     else
@@ -995,7 +1085,7 @@ static inline enum pcm_result pcm__settle(struct pcm *pcm, uint64_t tick, const 
 
 static inline enum pcm_result pcm_settle(struct pcm *pcm, uint64_t tick)
 {
-    const struct pcm__asks asks = {'S', 0, NULL, 0, NULL};
+    const struct pcm__asks asks = {'S', 0, NULL, 0, NULL, NULL};
     return pcm__settle(pcm, tick, &asks);
 }
 
@@ -1048,26 +1138,38 @@ static inline enum pcm_result pcm__settle_all(struct pcm *pcm, uint64_t tick, co
 
 static inline enum pcm_result pcm_settle_all(struct pcm *pcm, uint64_t tick, pcm_taker take, void *context)
 {
-    const struct pcm__asks asks = {'S', 0, NULL, 0, NULL};
+    const struct pcm__asks asks = {'S', 0, NULL, 0, NULL, NULL};
     return pcm__settle_all(pcm, tick, &asks, take, context);
 }
 
 static inline enum pcm_result pcm_ask(struct pcm *pcm, uint64_t tick, struct pcm_bank *banks, size_t count, pcm_taker take, void *context)
 {
-    const struct pcm__asks asks = {'Q', 0, banks, count, NULL};
+    const struct pcm__asks asks = {'Q', 0, banks, count, NULL, NULL};
     return pcm__settle_all(pcm, tick, &asks, take, context);
 }
 
 static inline enum pcm_result pcm_settle_until(struct pcm *pcm, uint32_t row, uint64_t tick, pcm_taker take, void *context)
 {
-    const struct pcm__asks asks = {'U', row, NULL, 0, NULL};
+    const struct pcm__asks asks = {'U', row, NULL, 0, NULL, NULL};
     return pcm__settle_all(pcm, tick, &asks, take, context);
 }
 
 static inline enum pcm_result pcm_look(struct pcm *pcm, uint64_t tick, struct pcm_wear *wear, pcm_taker take, void *context)
 {
-    const struct pcm__asks asks = {'L', 0, NULL, 0, wear};
+    const struct pcm__asks asks = {'L', 0, NULL, 0, wear, NULL};
     return pcm__settle_all(pcm, tick, &asks, take, context);
+}
+
+static inline enum pcm_result pcm_settle_any(struct pcm *pcm, uint64_t tick, pcm_taker take, void *context)
+{
+    const struct pcm__asks asks = {'A', 0, NULL, 0, NULL, NULL};
+    return pcm__settle_all(pcm, tick, &asks, take, context);
+}
+
+static inline enum pcm_result pcm_peek(struct pcm *pcm, uint64_t tick, uint32_t line, uint8_t *bytes, size_t size, pcm_taker take, void *context)
+{
+    const struct pcm__asks asks = {'P', line, NULL, 0, NULL, bytes};
+    return pcm__is_line(pcm, size) && size == pcm->line_size ? pcm__settle_all(pcm, tick, &asks, take, context) : PCM_SIZE;
 }
 
 /* What pcm_write_sure hands outcomes through: it looks for a refusal of its row. */
@@ -1159,9 +1261,9 @@ static inline int pcm__get_row(const char *row, struct pcm__traced *it)
     const char *at = pcm__field(row, &it->tick, 13);
     it->op = at != NULL ? *at : '?';
     it->line = it->size = 0;
-    if (at == NULL || it->op == 0 || strchr("RWMCSQUL", it->op) == NULL || at[1] != ',')
+    if (at == NULL || it->op == 0 || strchr("RWMCSQULP", it->op) == NULL || at[1] != ',')
         return 0;
-    if (strchr("SQUL", it->op) != NULL)
+    if (strchr("SQULP", it->op) != NULL)
         return 1;
     it->digits = at = it->op != 'C' ? pcm__field(at + 2, &it->line, 8) : at[2] == ',' ? at + 3 : NULL;
     if (at != NULL && (it->op == 'W' || it->op == 'M'))
@@ -1188,7 +1290,7 @@ static inline enum pcm_result pcm_replay(struct pcm *pcm, const char *row, pcm_t
     int is_header = strcmp(row, "tick,op,arg,data\n") == 0;
     if (pcm->to <= 0 || (!is_header && !pcm__get_row(row, &it)))
         return PCM_REFUSED;
-    if (is_header || strchr("SQUL", it.op) != NULL)
+    if (is_header || strchr("SQULP", it.op) != NULL)
         return PCM_OK;
     while ((result = pcm__send(pcm, &it)) == PCM_FULL && (result = pcm__hand(pcm, take, context)) == PCM_OK)
         ;

@@ -32,7 +32,7 @@ static const struct pcm__option pcm__options[] = {
     /* (what the library does anyway) */
     {"input", 0, "source"},
     {"print", 0, "rows"},
-    {"tell", 0, "nothing shape"},
+    {"tell", 0, "nothing shape module"},
     {"end", 0, "drain"},
     {"until", 0, "end"},
 };
@@ -122,8 +122,13 @@ static inline enum pcm_result pcm_open(struct pcm *pcm, const char *const words[
     pcm->ends_with = pcm__reads_words(&options, words) ? 0 : 2;
     if (pcm->ends_with == 0 && pcm_module_open(&pcm->module, &options) != PCM_MODULE_OK)
         pcm->ends_with = 7;
-    const struct pcm_shape shape = {1,           options.banks, options.regions,     options.lines, options.spares,
-                                    options.line, options.write_queue, options.read_queue};
+    const int is_whole = strcmp(pcm__value(words, "--tell", "nothing"), "module") == 0;
+    const struct pcm_shape shape = {is_whole ? 2u : 1u, options.banks, options.regions,     options.lines, options.spares,
+                                    options.line,     options.write_queue, options.read_queue};
+    const struct pcm_rest rest = {options.seed,       options.psi, options.read_ticks, options.iter_ticks, (enum pcm_policy)options.policy,
+                                  (enum pcm_home)options.registers};
+    if (is_whole)
+        pcm->told_besides = rest;
     pcm->told = shape;
     return PCM_OK;
 }
@@ -178,6 +183,10 @@ static inline enum pcm_result pcm__put(struct pcm *pcm, const struct pcm__row *r
         return PCM_ENDED;
     if (pcm__settles(row->op) && pcm->settles == PCM_MOST_SETTLES)
         return PCM_FULL;
+    if (row->op == 'P' || pcm__is_any(row->op)) {
+        errno = ENOTSUP;
+        return PCM_FAILED;
+    }
     uint32_t status = pcm__serve(pcm, row);
     if (status == PCM_MODULE_NO_MEMORY) {
         pcm->ends_with = 7;
@@ -196,7 +205,7 @@ static inline enum pcm_result pcm__await_shape(struct pcm *pcm)
 {
     if (pcm->ends_with == 2 || pcm->ends_with == 7)
         return PCM_ENDED;
-    pcm__know(pcm, &pcm->told);
+    pcm__know(pcm, &pcm->told, &pcm->told_besides);
     return PCM_OK;
 }
 

@@ -145,6 +145,38 @@ static void a_tick_that_was_not_asked_for(void)
     check(pcm_close(&pcm) == 0, "status 0");
 }
 
+static void the_newest_bytes_of_a_line_are_told(const char *const words[])
+{
+    static struct pcm pcm;
+    struct pcm_wear before = {0, 0, 0, 0, 0, 0, 0}, behind = before;
+    uint8_t bytes[64], found[64], given[64] = {1}, none[64] = {0};
+    memset(bytes, 0xff, sizeof bytes);
+    memset(&taken, 0, sizeof taken);
+    check(pcm_open(&pcm, words) == PCM_OK && pcm_peek(&pcm, 0, 0, found, 64, take, &taken) == PCM_OK && taken.count == 0, "a peek at a new module");
+    check(memcmp(found, none, 64) == 0 && pcm.rows == 0, "never written, it counts as 0");
+    check(pcm_write(&pcm, 0, 0, bytes, 64) == PCM_OK && pcm_peek(&pcm, 0, 0, found, 64, take, &taken) == PCM_OK, "a write waits");
+    check(memcmp(found, bytes, 64) == 0 && pcm.tick == 0 && taken.count == 0, "what is accepted is newest, at the same tick");
+    bytes[0] = 7;
+    check(pcm_write_masked(&pcm, 3, 0, bytes, given, 64) == PCM_OK && pcm_cut(&pcm, 8) == PCM_OK, "one byte more, and the power goes");
+    check(pcm_look(&pcm, 8, &before, take, &taken) == PCM_OK && pcm_peek(&pcm, 8, 0, found, 64, take, &taken) == PCM_OK, "it is there");
+    check(memcmp(found, bytes, 64) == 0 && pcm_look(&pcm, 8, &behind, NULL, NULL) == PCM_OK && before.senses == behind.senses, "nothing was sensed");
+    check(pcm_peek(&pcm, 8, 0, found, 63, NULL, NULL) == PCM_SIZE && pcm_peek(&pcm, 7, 0, found, 64, NULL, NULL) == PCM_REFUSED, "what is wrong is refused");
+    check(pcm_finish(&pcm) == PCM_OK && ends(&pcm) && pcm_close(&pcm) == 0, "status 0");
+}
+
+static void a_settle_until_any_row_goes_to_the_next_outcome(const char *const words[])
+{
+    static struct pcm pcm;
+    uint8_t bytes[64] = {1};
+    memset(&taken, 0, sizeof taken);
+    check(pcm_open(&pcm, words) == PCM_OK && pcm_write(&pcm, 0, 0, bytes, 64) == PCM_OK, "a write");
+    check(pcm_settle_any(&pcm, 14, take, &taken) == PCM_OK && pcm.tick == 14 && taken.count == 0, "not long enough");
+    check(pcm_settle_any(&pcm, 1000, take, &taken) == PCM_OK && pcm.tick == 15 && taken.count == 1, "it is stored");
+    check(pcm_read(&pcm, 20, 0) == PCM_OK && pcm_settle_any(&pcm, 1000, take, &taken) == PCM_OK && pcm.tick == 25 && taken.count == 2, "a read");
+    check(pcm_settle_any(&pcm, 1000, take, &taken) == PCM_OK && pcm.tick == 1000 && taken.count == 2, "nothing is left to tell");
+    check(pcm_finish(&pcm) == PCM_OK && ends(&pcm) && pcm_close(&pcm) == 0, "status 0");
+}
+
 static void a_shape_that_is_none(void)
 {
     static struct pcm pcm;
@@ -344,6 +376,8 @@ int main(int count, char **words)
     what_was_told_before_an_end_is_handed_on(all);
     a_stream_that_ends_with_a_refusal(all, n);
     a_tick_that_was_not_asked_for();
+    the_newest_bytes_of_a_line_are_told(all);
+    a_settle_until_any_row_goes_to_the_next_outcome(all);
     a_shape_that_is_none();
     a_script_is_asked_what_its_module_is(all, n);
     digits_are_put_and_read();

@@ -436,6 +436,12 @@ static void what_the_module_is_is_told(const char *const words[], int count)
     check(pcm_read(&pcm, 0, 4) == PCM_REFUSED && pcm_write(&pcm, 0, 4, bytes, 64) == PCM_REFUSED, "a line that it hasn't is refused");
     check(pcm_read(&pcm, 0, 3) == PCM_OK && pcm_cut(&pcm, 9) == PCM_OK && pcm_settle_until(&pcm, 1, 100, NULL, NULL) == PCM_OK, "others aren't");
     check(pcm_finish(&pcm) == PCM_OK && ends(&pcm) && pcm_learn(&pcm, &right) == PCM_OK && pcm_close(&pcm) == 0, "status 0");
+    telling[count + 1] = "module";
+    check(pcm_open(&pcm, telling) == PCM_OK && pcm_learn(&pcm, &banks) == PCM_OK && pcm.shape.version == 2, "it may tell all of itself");
+    check(pcm.rest.seed == pcm.seed && pcm.rest.psi == 100 && pcm.rest.read_ticks == 5 && pcm.rest.iter_ticks == 10, "seed, gap moves, ticks");
+    check(pcm.rest.policy == PCM_PAUSE && pcm.rest.home == PCM_GUARDED && pcm_bank_of(&pcm, 3) == 0 && pcm_finish(&pcm) == PCM_OK, "policy, registers");
+    check(ends(&pcm) && pcm_close(&pcm) == 0, "status 0");
+    telling[count + 1] = "shape";
     check(pcm_open(&pcm, telling) == PCM_OK && pcm_read(&pcm, 0, 0) == PCM_OK && pcm_settle(&pcm, 9) == PCM_OK, "a row before it is asked for");
     check(pcm_next(&pcm, &outcome) == PCM_OK && outcome.kind == PCM_READ && pcm_learn(&pcm, &right) == PCM_OK, "it is known by the first answer");
     check(pcm_finish(&pcm) == PCM_OK && ends(&pcm) && pcm_close(&pcm) == 0, "status 0");

@@ -55,17 +55,17 @@ from .frames import to_frame
 from .image import Bank, Entry, Image, ImageError, Region
 from .module import Module
 from .outcomes import (
-    Backlog, Busy, Cut, Forwarded, Full, Lost, Merged, Outcome, Queued, Read as ReadOutcome, Settled, Shape, Stored, Wear, Worn,
+    Backlog, Busy, Cut, Forwarded, Full, Lost, Merged, Newest, Outcome, Queued, Read as ReadOutcome, Settled, Shape, Stored, Wear, Worn,
 )
 from .program import command, program
-from .rows import Look, MaskedWrite, PowerCut, Query, Read, Settle, SettleUntil, Write, numbered, read_trace, write_trace
+from .rows import Look, MaskedWrite, Peek, PowerCut, Query, Read, Settle, SettleUntil, Write, numbered, read_trace, write_trace
 from .snapshots import Snapshot, SnapshotError, read_snapshots, snapshots
 from .whole import Result, ResultRow, WearLine, run
 
 __version__ = "2.0.0"
 __all__ = [
     "Answer", "Asks", "Backlog", "Bank", "BankFact", "Busy", "BytesFact", "Cut", "Entry", "Explanation", "ExplanationError", "Fact",
-    "Forwarded", "Full", "Image", "ImageError", "Look", "Lost", "MaskedWrite", "Merged", "Module", "OutOfMemory", "Outcome", "PcmError",
+    "Forwarded", "Full", "Image", "ImageError", "Look", "Lost", "MaskedWrite", "Merged", "Module", "Newest", "OutOfMemory", "Outcome", "PcmError", "Peek",
     "PowerCut", "Query", "Queued", "Read", "ReadBetween", "ReadFault", "ReadOutcome", "Region", "Result", "ResultRow", "RowFact",
     "RowsFact", "Settle", "SettleUntil", "Settled", "Shape", "Snapshot", "SnapshotError", "Stored", "StoredBy", "TickFact", "TooLong",
     "TraceError", "UsageError", "Wear", "WearLine", "Worn", "Write", "WriteFault", "command", "explain", "explain_all", "numbered",

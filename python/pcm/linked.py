@@ -24,7 +24,7 @@ _NUMBERS = (
     "lo", "hi",
 )
 # What the library does anyway.
-_ANYWAY = {"input": ("source",), "print": ("rows",), "tell": ("nothing", "shape"), "end": ("drain",), "until": ("end",)}
+_ANYWAY = {"input": ("source",), "print": ("rows",), "tell": ("nothing", "shape", "module"), "end": ("drain",), "until": ("end",)}
 # The bytes of a struct pcm_module_outcome.
 _OUTCOME = 152
 
@@ -153,6 +153,8 @@ class Linked:
     def settle(self, number: int, op: str, tick: int, row: int) -> int:
         """The module settles; answers the tick that was reached."""
         self._tick.value = tick
+        if op == "P" or (op == "U" and row == 0):
+            raise ValueError(f"the library answers no {'peek' if op == 'P' else 'settle until any row has its outcome'}: way=\"program\" does")
         if op == "U":
             status = self._calls.pcm_module_settle_until(self._at, ctypes.c_uint32(row), self._tick)
         else:
@@ -177,6 +179,10 @@ class Linked:
         told = _Worn()
         self._calls.pcm_module_look(self._at, ctypes.byref(told))
         return Wear(int(self._calls.pcm_module_tick(self._at)), *(getattr(told, name) for name, _ in _Worn._fields_))
+
+    def newest(self) -> bytes:
+        """(Nor is a peek.)"""
+        raise NotImplementedError
 
     def take(self) -> List[Outcome]:
         """The outcomes that are known and weren't taken."""

@@ -62,7 +62,7 @@ class Module:
         self._is_closed = False
         self._log = log
         self._shape: Optional[Shape] = None
-        self._tells_shape = options.get("tell") == "shape"
+        self._tells_shape = options.get("tell") in ("shape", "module")
         self._lines, self._seed = LARGE.all_lines, int(str(options.get("seed") or 0))
         self._randomiser: Optional[Randomiser] = None
         # (all other sizes are refused)
@@ -97,6 +97,7 @@ class Module:
 
     def _learn(self, shape: Shape) -> None:
         self._shape, self.line_size = shape, shape.line
+        self._seed = self._seed if shape.seed is None else shape.seed
         self._lines = shape.banks * shape.regions * shape.lines
 
     @property
@@ -106,7 +107,7 @@ class Module:
 
     @property
     def shape(self) -> Optional[Shape]:
-        """What the module is, as it tells by `tell="shape"`; it waits for that. None where it isn't told. `ValueError` where the module was closed
+        """What the module is, as it tells by `tell="shape"`, or in full by `tell="module"`; it waits for that. None where it isn't told. `ValueError` where the module was closed
         before it was known."""
         while self._tells_shape and self._shape is None:
             self._way.await_told()
@@ -164,6 +165,19 @@ class Module:
         which the next row may go on. Answers as `settle`."""
         self._settle("U", tick, row, type(row) is int and 0 < row <= self._rows)
         return self._way.take()
+
+    def settle_any(self, tick: int) -> List[Outcome]:
+        """The same, until any row has its outcome that had none: to the first tick behind which something is to tell, and to `tick` where nothing is by
+        then. `ValueError` where the library serves the module."""
+        self._settle("U", tick)
+        return self._way.take()
+
+    def peek(self, line: int, tick: Optional[int] = None) -> bytes:
+        """Every bank goes on to a tick (None: that at which the module stands, so that none passes). Answers a line's newest bytes: those that the
+        module accepted last, wherever they are. No line is sensed for it. Outcomes known by then come from the next `settle`, `outcomes` or `finish`.
+        `ValueError` where the library serves the module."""
+        self._settle("P", self.tick if tick is None else tick, line, type(line) is int and 0 <= line < self._lines)
+        return self._way.newest()
 
     def banks(self, tick: int) -> List[Backlog]:
         """Every bank goes on to a tick. Answers what waits in each then, in order, and whether it goes on; outcomes known by then come from the

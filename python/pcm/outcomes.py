@@ -128,9 +128,19 @@ class Wear:
 
 
 @dataclass(frozen=True)
+class Newest:
+    """The newest bytes of a line (`data`), of a module that has gone on to `tick`."""
+
+    tick: int
+    line: int
+    data: bytes
+
+
+@dataclass(frozen=True)
 class Shape:
     """What a module is: its `banks`, the `regions` of each, the `lines` of a region, the `spares` of a bank, the bytes of a `line`, and how many
-    writes a bank's queue holds and how many reads may wait there. `version` is that of the stream's format."""
+    writes a bank's queue holds and how many reads may wait there. `version` is that of what is told: by `tell="module"` it is 2, and the other
+    numbers and words are the options of the same names; else they are None."""
 
     version: int
     banks: int
@@ -140,6 +150,12 @@ class Shape:
     line: int
     write_queue: int
     read_queue: int
+    seed: Optional[int] = None
+    psi: Optional[int] = None
+    read_ticks: Optional[int] = None
+    iter_ticks: Optional[int] = None
+    policy: Optional[str] = None
+    registers: Optional[str] = None
 
 
 MARKS = ("going", "exhausted", "halted")
@@ -173,13 +189,20 @@ def _wear_of(tick: int, data: str) -> Wear:
 
 
 def _shape_of(version: int, data: str) -> Shape:
-    banks, regions, lines, spares, line, write_queue, read_queue = map(int, data.split(" "))
-    return Shape(version, banks, regions, lines, spares, line, write_queue, read_queue)
+    fields = data.split(" ")
+    banks, regions, lines, spares, line, write_queue, read_queue = map(int, fields[:7])
+    if version < 2 and len(fields) == 7:
+        return Shape(version, banks, regions, lines, spares, line, write_queue, read_queue)
+    seed, psi, read_ticks, iter_ticks = map(int, fields[7:11])
+    policy, registers = fields[11:]
+    return Shape(
+        version, banks, regions, lines, spares, line, write_queue, read_queue, seed, psi, read_ticks, iter_ticks, policy, registers
+    )
 
 
-def told_of(line: str) -> Optional["Outcome | Backlog | Wear | Shape | Settled"]:
-    """What a line of a stream tells: an outcome, what waits in a bank, how worn the module is, what it is, or that it has settled; nothing for
-    the header."""
+def told_of(line: str) -> Optional["Outcome | Backlog | Wear | Newest | Shape | Settled"]:
+    """What a line of a stream tells: an outcome, what waits in a bank, how worn the module is, what a line's newest bytes are, what the module is,
+    or that it has settled; nothing for the header."""
     row, word, tick, place, data = line.rstrip("\n").split(",")
     if word == "settled":
         return Settled(int(tick))
@@ -187,6 +210,8 @@ def told_of(line: str) -> Optional["Outcome | Backlog | Wear | Shape | Settled"]
         return _backlog_of(int(tick), int(place), data)
     if word == "wear":
         return _wear_of(int(tick), data)
+    if word == "bytes":
+        return Newest(int(tick), int(place), bytes.fromhex(data))
     if word == "shape":
         return _shape_of(int(place), data)
     if row == "row":

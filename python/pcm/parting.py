@@ -22,8 +22,8 @@ at once, and what they print is kept in a temporary folder (TMPDIR says where) u
 part is drawn by itself. A trace may have more rows than one stream takes, as long as no part has.
 
 Not in parts: --print snapshots (they are due by numbers of rows of the whole trace; a look, `tick,L,,`, is joined), --until refused (which
-row is the first of all no part knows), --first-bank and --last-bank (parts are banks), and a settle until, `tick,U,ROW,`, which is told
-at its row, before anything is printed.
+row is the first of all no part knows), --first-bank and --last-bank (parts are banks), and a settle until and a peek (`tick,U,ROW,`,
+`tick,P,LINE,`), which are told at their row, before anything is printed.
 
 A fault of the trace is told as a stream tells it, and nothing else is printed. Statuses are those of a stream; 5 also where another call is
 at work at the folder, and 70 where a process was ended by a signal, or couldn't be started."""

@@ -175,8 +175,8 @@ def _split_trace(splitter: _Splitter, size: int, piece: Optional[Sequence[int]])
         raise PassFault(3, "trace row 0: header")
     for record in records:
         kind = fault_kind(record, splitter.tick, shape, splitter.rows + 1)
-        if record[1:2] == ["U"] and kind in (None, "line", "payload"):
-            kind = "until"
+        if record[1:2] in (["U"], ["P"]) and kind in (None, "line", "payload"):
+            kind = "until" if record[1] == "U" else "peek"
         if kind:
             raise PassFault(3, f"trace row {splitter.rows + 1}: {kind}")
         tick, op, arg, _ = record

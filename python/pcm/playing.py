@@ -230,6 +230,8 @@ def _split_failure(status: int, line: str) -> SplitFailed:
     row, _, kind = line.partition(": ")
     if kind == "until":
         return SplitFailed(3, f"{row}: a settle until ends at a tick that one bank decides for all: such a trace isn't split")
+    if kind == "peek":
+        return SplitFailed(3, f"{row}: a peek is answered by one bank's part alone: such a trace isn't split")
     return SplitFailed(status, line)
 
 

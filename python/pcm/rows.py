@@ -17,8 +17,9 @@ Given = Union[bytes, str]
 
 
 def text_of(op: str, tick: int, number: int, data: Given) -> str:
-    """The text of a row by its letter and its number: a line, or the row that a settle until waits for."""
-    return f"{tick},{op},{number if op in 'RWMU' else ''},{data if isinstance(data, str) else data.hex()}\n"
+    """The text of a row by its letter and its number: a line, or the row that a settle until waits for, 0 where that is any."""
+    named = str(number) if op in "RWMP" or (op == "U" and number) else ""
+    return f"{tick},{op},{named},{data if isinstance(data, str) else data.hex()}\n"
 
 
 @dataclass(frozen=True)
@@ -88,14 +89,15 @@ class Query:
 
 @dataclass(frozen=True)
 class SettleUntil:
-    """The module goes on until `row`, the number of a row that came before, has its outcome: to the first tick behind which it has, and to `tick`
-    where it has none by then. The rows behind may have any tick from the reached one on. A row of streams alone, without a number."""
+    """The module goes on until `row`, the number of a row that came before, has its outcome, or where that is None any row that had none: to the
+    first tick behind which it has, and to `tick` where it has none by then. The rows behind may have any tick from the reached one on. A row of
+    streams alone, without a number."""
 
     tick: int
-    row: int
+    row: Optional[int] = None
 
     def text(self) -> str:
-        return f"{self.tick},U,{self.row},\n"
+        return f"{self.tick},U,{'' if self.row is None else self.row},\n"
 
 
 @dataclass(frozen=True)
@@ -108,9 +110,20 @@ class Look:
         return f"{self.tick},L,,\n"
 
 
-Row = Union[Read, Write, MaskedWrite, PowerCut, Settle, Query, SettleUntil, Look]
+@dataclass(frozen=True)
+class Peek:
+    """Every bank goes on to a tick, and what a line's newest bytes are then is told. A row of streams alone, without a number."""
+
+    tick: int
+    line: int
+
+    def text(self) -> str:
+        return f"{self.tick},P,{self.line},\n"
+
+
+Row = Union[Read, Write, MaskedWrite, PowerCut, Settle, Query, SettleUntil, Look, Peek]
 # Those that settle, by their letters: a stream's alone, and without a number.
-SETTLING = {"S": Settle, "Q": Query, "U": SettleUntil, "L": Look}
+SETTLING = {"S": Settle, "Q": Query, "U": SettleUntil, "L": Look, "P": Peek}
 
 
 def numbered(rows: Iterable[Row]) -> Iterator[Row]:
@@ -165,26 +178,26 @@ def _row_of(fields: Sequence[str], count: int) -> Row:
     tick = _natural("tick", fields[0])
     if op == "U":
         return SettleUntil(tick, _row_before(count, fields[2], data))
-    if op == "C" or op in SETTLING:
+    if op == "C" or (op in SETTLING and op != "P"):
         if fields[2] or data:
             raise ValueError("line" if fields[2] else "payload")
         return PowerCut(tick) if op == "C" else SETTLING[op](tick)
     line = _natural("line", fields[2])
-    form = {"R": "", "W": "(?:[0-9a-fA-F]{2})+", "M": r"(?:[0-9a-fA-F]{2}|\.\.)+"}[op]
+    form = {"R": "", "P": "", "W": "(?:[0-9a-fA-F]{2})+", "M": r"(?:[0-9a-fA-F]{2}|\.\.)+"}[op]
     if not re.fullmatch(form, data):
         raise ValueError("payload")
-    if op == "R":
-        return Read(tick, line)
+    if op in "RP":
+        return Read(tick, line) if op == "R" else Peek(tick, line)
     if op == "W":
         return Write(tick, line, bytes.fromhex(data))
     pairs = (data[at:at + 2] for at in range(0, len(data), 2))
     return MaskedWrite(tick, line, [None if pair == ".." else int(pair, 16) for pair in pairs])
 
 
-def _row_before(count: int, text: str, data: str) -> int:
-    """The number of one of so many rows."""
-    row = _natural("line", text)
-    if not 1 <= row <= count:
+def _row_before(count: int, text: str, data: str) -> Optional[int]:
+    """The number of one of so many rows, None where none is named."""
+    row = _natural("line", text) if text else None
+    if row is not None and not 1 <= row <= count:
         raise ValueError("line")
     if data:
         raise ValueError("payload")

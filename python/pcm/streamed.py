@@ -9,7 +9,7 @@ from typing import Callable, Deque, Iterator, List, Optional, Sequence, Union
 
 from .copying import Asks, Copied
 from .errors import PcmError, error_of
-from .outcomes import Backlog, Outcome, Settled, Shape, Wear, told_of
+from .outcomes import Backlog, Newest, Outcome, Settled, Shape, Wear, told_of
 from .progress import Progress
 from .rows import HEADER, Given, text_of
 from .words import Handed
@@ -35,6 +35,7 @@ class Streamed:
         self._settled: Optional[int] = None
         self._backlogs: List[Backlog] = []
         self._wear: Optional[Wear] = None
+        self._newest: Optional[Newest] = None
         self.status: Optional[int] = None
         # (whether it waits to hand rows out, whether the program's end was seen, and whether it was closed)
         self._writing = self._ended = self._closed = False
@@ -85,7 +86,7 @@ class Streamed:
 
     def settle(self, number: int, op: str, tick: int, row: int) -> int:
         """Hands a row that settles in, waits for its answer, and answers the tick that was reached."""
-        self._backlogs, self._wear, self._settled = [], None, None
+        self._backlogs, self._wear, self._newest, self._settled = [], None, None, None
         self.gather(number, text_of(op, tick, row, b""))
         while self._settled is None:
             if self._ended:
@@ -111,6 +112,11 @@ class Streamed:
         """What the last look told."""
         assert self._wear is not None
         return self._wear
+
+    def newest(self) -> bytes:
+        """What the last peek told."""
+        assert self._newest is not None
+        return self._newest.data
 
     def take(self) -> List[Outcome]:
         """The outcomes that were told and not taken."""
@@ -228,6 +234,8 @@ class Streamed:
                 self._backlogs.append(told)
             elif isinstance(told, Wear):
                 self._wear = told
+            elif isinstance(told, Newest):
+                self._newest = told
             elif isinstance(told, Shape):
                 self._learn(told)
             elif told is not None:

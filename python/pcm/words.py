@@ -140,7 +140,7 @@ _STREAM = [
     _number("every", "N", 100000, 1, 4294967295, "rows between snapshots"),
     _choice("end", "E", "what becomes of the module behind the last row", "drain", "off"),
     _choice("until", "U", "up to where the rows are served", "end", "refused"),
-    _choice("tell", "T", "what is told of the module before its rows", "nothing", "shape"),
+    _choice("tell", "T", "what is told of the module before its rows", "nothing", "shape", "module"),
     _choice("skip", "K", "which array lines a report leaves out", "nothing", "unpulsed"),
     _number("rows", "N", 1000, 1, 4000000000, "rows of the drawn trace"),
     _number("cuts", "N", 0, 0, 4000000000, "power cuts among the drawn rows"),
@@ -364,7 +364,7 @@ def wrong_word(words: Sequence[str]) -> Optional[str]:
 
 HEADER = ["tick", "op", "arg", "data"]
 # The rows of streams alone, which have no number: the module settles.
-SETTLING = {"S": "a settle", "Q": "a query", "U": "a settle until", "L": "a look"}
+SETTLING = {"S": "a settle", "Q": "a query", "U": "a settle until", "L": "a look", "P": "a peek"}
 # The first line of results.
 RESULTS = "row,op,line,outcome,tick,place,data"
 # The same of a stream.
@@ -465,9 +465,9 @@ def _wrong_field(
     if op not in ops:
         why = f" ({op}, {SETTLING[op]}, is a stream's alone)" if op in SETTLING else ""
         return "op", f"the second field must be {either(ops)}, and is {_shown(op)}{why}"
-    if op == "U" and not (re.fullmatch(r"[0-9]{1,10}", arg) and 1 <= int(arg) < number):
+    if op == "U" and arg and not (re.fullmatch(r"[0-9]{1,10}", arg) and 1 <= int(arg) < number):
         return "line", _wrong_row_before(arg, number)
-    if op == "C" or op in SETTLING:
+    if op == "C" or (op in SETTLING and op != "P"):
         if arg and op != "U":
             return "line", f"the third field of {op} must be empty, and is {_shown(arg)}"
         return ("payload", _wrong_payload(op, data, size)) if data else None
@@ -476,7 +476,7 @@ def _wrong_field(
         product = "a module has at most" if lines == LARGE.all_lines else "banks x regions x lines are"
         named = f"0 to {lines - 1} ({product} {lines}) in at most {digits} digits"
         return "line", f"the third field must be a line, {named}, and is {_shown(arg)}"
-    pattern = {"R": "", "W": f"[0-9a-fA-F]{{{2 * size}}}", "M": rf"(?!\.*$)(?:[0-9a-fA-F]{{2}}|\.\.){{{size}}}"}[op]
+    pattern = {"R": "", "P": "", "W": f"[0-9a-fA-F]{{{2 * size}}}", "M": rf"(?!\.*$)(?:[0-9a-fA-F]{{2}}|\.\.){{{size}}}"}[op]
     return None if re.fullmatch(pattern, data) else ("payload", _wrong_payload(op, data, size))
 
 

@@ -78,6 +78,38 @@ class Looking:
             self.assertEqual(pcm.Wear(35, 2, 2, 0, 0, 4, 512, 256), module.wear())
             self.assertEqual((35, 2), (module.tick, row))
 
+    def test_the_newest_bytes_of_a_line_are_told(self):
+        with pcm.Module(**SMALL) as module:
+            self.assertEqual(bytes(64), module.peek(0))
+            module.write(0, 0, ONES)
+            self.assertEqual(ONES, module.peek(0))
+            module.write_masked(3, 0, [7] + 63 * [None])
+            self.assertEqual((b"\x07" + ONES[1:], 3), (module.peek(0), module.tick))
+            module.cut(8)
+            self.assertEqual(b"\x07" + ONES[1:], module.peek(0, 9))
+            self.assertEqual(bytes(64), module.peek(1, 1000))
+            self.assertEqual(2, len([it for it in module.outcomes() if it.word == "stored" or it.word == "merged"]))
+            senses = module.wear().senses
+            module.peek(0)
+            self.assertEqual(senses, module.wear().senses)
+            with self.assertRaises(pcm.TraceError):
+                module.peek(-1)
+
+    def test_a_settle_until_any_row_goes_to_the_next_outcome(self):
+        with pcm.Module(**SMALL) as module:
+            module.write(0, 0, ONES)
+            self.assertEqual(([], 14), (told(module.settle_any(14)), module.tick))
+            self.assertEqual(([(1, "stored", 15)], 15), (told(module.settle_any(1000)), module.tick))
+            module.read(20, 0)
+            self.assertEqual(([(2, "read", 25)], 25), (told(module.settle_any(1000)), module.tick))
+            self.assertEqual(([], 1000), (told(module.settle_any(1000)), module.tick))
+
+    def test_all_of_a_module_is_told(self):
+        with pcm.Module(tell="module", seed=7, psi=9, read_ticks=4, policy="plain", **SMALL) as module:
+            shape = module.shape
+            self.assertEqual((2, 7, 9, 4, 10, "plain", "guarded"), (shape.version, shape.seed, shape.psi, shape.read_ticks, shape.iter_ticks, shape.policy, shape.registers))
+            self.assertIn(module.bank_of(0), range(shape.banks))
+
 
 class Telling:
     """What a program that tells what a module is does."""
@@ -154,7 +186,7 @@ class Rows(unittest.TestCase):
         self.assertEqual([pcm.Read(0, 0), pcm.PowerCut(3), pcm.Read(4, 3)], list(pcm.numbered(pcm.read_trace(io.StringIO(self.TRACE)))))
 
     def test_faults_of_a_settle_until_are_named(self):
-        for line, kind in {"5,U,,": "line", "5,U,0,": "line", "5,U,3,": "line", "5,U,x,": "line", "5,U,2,00": "payload", "x,U,2,": "tick", "5,U,2": "fields"}.items():
+        for line, kind in {"5,U,,00": "payload", "5,U,0,": "line", "5,U,3,": "line", "5,U,x,": "line", "5,U,2,00": "payload", "x,U,2,": "tick", "5,U,2": "fields"}.items():
             with self.assertRaisesRegex(ValueError, f"^row 4: {kind}$"):
                 list(pcm.read_trace(["tick,op,arg,data\n", "0,R,0,\n", "1,S,,\n", "2,C,,\n", line + "\n"]))
 

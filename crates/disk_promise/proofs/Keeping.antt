@@ -4,10 +4,10 @@ use Rattle.std.specs.Prelude.{IfOk, Result, Ok, Err}
 use Rattle.cell_rows.specs.Device.{ArrayState}
 use Rattle.row_rules.specs.{Rows.newest, declared.Row.Row}
 use Rattle.module_shape.specs.Limits.{IsShape, total_of}
-use Rattle.pcm_module.specs.State.{ModuleState}
+use Rattle.pcm_module.specs.State.{ModuleState, stand_now}
 use Rattle.read_moments.specs.Reads.{standing}
 use Rattle.row_stream.proofs.Tables.{rows-are}
-use Rattle.moment_laws.specs.Moments.{MomentLaw, stand_now}
+use Rattle.moment_laws.specs.Moments.{MomentLaw}
 use Rattle.atomic_sectors.specs.{declared.layout.Layout.Layout, declared.recorded.Put.Put}
 use Rattle.disk_rules.specs.Agreeing.{AgreeLaw, NewDiskLaw}
 use Rattle.disk_bytes.specs.Serving.{IsServed}

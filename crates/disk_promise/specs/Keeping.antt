@@ -2,8 +2,7 @@
 use Rattle.std.specs.Prelude.{ℕ, List}
 use Rattle.cell_rows.specs.Device.{ArrayState}
 use Rattle.module_shape.specs.Limits.{IsShape, total_of}
-use Rattle.pcm_module.specs.State.{ModuleState}
-use Rattle.moment_laws.specs.Moments.{stand_now}
+use Rattle.pcm_module.specs.State.{ModuleState, stand_now}
 use Rattle.atomic_sectors.specs.{Sectors.Fits, declared.layout.Layout.Layout}
 use Rattle.disk_rules.specs.{Standing.HoldsDisk, declared.Answer.Answer, declared.Request.Request}
 use Rattle.disk_lines.specs.{Asking.HasHeard, Places.place_of, Serving.IsDiskByRows, declared.watch.Heard.Heard}

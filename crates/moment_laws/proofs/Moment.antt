@@ -19,10 +19,10 @@ use Rattle.clock_laws.specs.{Ending.LeavingLaw, State.ClockState}
 use Rattle.answered_laws.specs.Answered.{is_served_so_far}
 use Rattle.bank_timing.specs.Extending.{outcome_in}
 use Rattle.run_laws.{specs.FinishedLaws.{LinesLaw, ends_of}, proofs.Finished.sized as bank-sized}
-use Rattle.pcm_module.specs.{Asking.asked_for, Replaying.{BankReplays, Replays}, State.{ModuleState, bank_at, first_bank}}
+use Rattle.pcm_module.specs.{Asking.asked_for, Replaying.{BankReplays, Replays}, State.{ModuleState, bank_at, first_bank, stand_now}}
 use Rattle.read_moments.{specs.Reads.{ReadsLaw, standing}, proofs.Rows.{IsRight, bank-standing, rows-stand}}
 use Rattle.row_stream.{specs.Answering.backlog_of, proofs.Tables.rows-are}
-use Rattle.moment_laws.specs.{Backlogs.CountsBacklog, Banks.MeanwhileLaw, Moments.{IsQueuedNow, rows_now, stand_now}}
+use Rattle.moment_laws.specs.{Backlogs.CountsBacklog, Banks.MeanwhileLaw, Moments.{IsQueuedNow, rows_now}}
 use Rattle.moment_laws.proofs.{Counting.{entries-counted, waiting-counted}, Queueing.{IsQueuedBy, by_lines, queued-so-far}}
 
 -- what holds of the bank that is there holds of the bank of that number

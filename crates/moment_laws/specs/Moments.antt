@@ -5,16 +5,14 @@ use Rattle.cell_rows.specs.Device.{ArrayState}
 use Rattle.trace_reader.specs.declared.event.Event.{Event}
 use Rattle.result_rows.specs.{declared.Outcome.Outcome, declared.Outcome.TheVariants.Unset}
 use Rattle.row_rules.specs.{Rows.{asks_write, each_row, line_of, newest}, declared.Row.Row}
-use Rattle.power_recovery.specs.Kept.{KeptState}
 use Rattle.bank_model.specs.{Events.newest as newest_by, Timing.{TimedEvent, core}}
 use Rattle.answered_laws.specs.Answered.{is_served_so_far}
 use Rattle.module_shape.specs.{Limits.{IsShape, total_of}, declared.raw.RawShape.RawShape}
 use Rattle.module_laws.specs.Asking.{Asked}
-use Rattle.bank_invariant.specs.Holds.{stands_for}
 use Rattle.bank_timing.specs.Extending.{outcome_in}
 use Rattle.right_runs.specs.{Banks.{bank_of_line, line_in_bank}, Runs.EndsTo, Tables.table_in}
 use Rattle.run_laws.specs.FinishedLaws.{ends_of}
-use Rattle.pcm_module.specs.{Asking.asked_for, State.{ModuleState, bank_at}}
+use Rattle.pcm_module.specs.{Asking.asked_for, State.{ModuleState, bank_at, kept_for, stand_now}}
 use Rattle.read_moments.specs.Reads.{standing}
 use Rattle.row_printer.specs.{Printing.table_of, declared.told.Told.Told}
 use Rattle.trace_stream.specs.{Asked.events_in, declared.asked.Asked.Asked as StreamAsked}
@@ -26,21 +24,12 @@ abbrev pub rows_now : {n : ℕ} → List (Event n) → List (Outcome n) → List
 rows_now events outcomes = map standing (rows_of events outcomes)
 
 module _ {n m e : ℕ} (module_ : ModuleState n m e) where
-  -- what the bank of a line keeps
-  abbrev pub kept_for : ℕ → KeptState n
-  kept_for line = (bank_at module_ (bank_of_line module_.shape module_.seed line)).bank.kept
-
-  -- the bytes that stand for a line now: those that its bank's queue gives, laid over what the array line is read as at which the bank's
-  -- registers and remap table put it
-  abbrev pub stand_now : ArrayState n m → ℕ → List ℕ
-  stand_now array line = stands_for e (kept_for line) array (line_in_bank module_.shape module_.seed line)
-
   -- a write stands in the queue of its line's bank exactly where its outcome isn't known yet
   abbrev pub IsQueuedNow : List (Outcome n) → Asked n → Type 0
   IsQueuedNow outcomes a =
       IsTrue (asks_write a.asks)
-      → (outcome_in outcomes a.row ≡ Unset → IsTrue (has_row (kept_for (line_of a.asks)).entries a.row))
-      × (IsTrue (has_row (kept_for (line_of a.asks)).entries a.row) → outcome_in outcomes a.row ≡ Unset)
+      → (outcome_in outcomes a.row ≡ Unset → IsTrue (has_row (kept_for module_ (line_of a.asks)).entries a.row))
+      × (IsTrue (has_row (kept_for module_ (line_of a.asks)).entries a.row) → outcome_in outcomes a.row ≡ Unset)
 
   -- nothing is lost now: the bytes that stand for each line are its newest, by what its bank accepted and by the rows so far; what
   -- counts there as queued is what is queued; each row so far is served, or has no outcome yet; and by these rows each bank stands as where the power stays off, and as
@@ -48,8 +37,8 @@ module _ {n m e : ℕ} (module_ : ModuleState n m e) where
   pub record LosesNothing (h : ℕ → List (TimedEvent n m)) (events : List (Event n)) (array : ArrayState n m) (outcomes : List (Outcome n))
       : Type 0 where
     pub accepted : (line : ℕ) → line < total_of module_.shape
-        → stand_now array line ≡ newest_by (core (h (bank_of_line module_.shape module_.seed line))) (line_in_bank module_.shape module_.seed line)
-    pub stands : (line : ℕ) → line < total_of module_.shape → stand_now array line ≡ newest (rows_now events outcomes) line
+        → stand_now module_ array line ≡ newest_by (core (h (bank_of_line module_.shape module_.seed line))) (line_in_bank module_.shape module_.seed line)
+    pub stands : (line : ℕ) → line < total_of module_.shape → stand_now module_ array line ≡ newest (rows_now events outcomes) line
     pub queued : All (IsQueuedNow outcomes) (asked_for events)
     pub reads : IsTrue (each_row is_served_so_far (rows_now events outcomes) [])
     pub ends : EndsTo e module_.shape module_.seed true (rows_now events outcomes) array (ends_of h (bank_at module_))

@@ -36,6 +36,8 @@ pub struct Keeper<const B: usize> {
     rows: u32,
     // How many of them have no outcome yet.
     untold: u32,
+    // Whether an outcome was told since it began to listen.
+    heard: bool,
     // For contracts alone: one byte each.
     told: GhostList<Told<B>>,
     taken: GhostList<Kept<B>>,
@@ -61,6 +63,7 @@ impl<const B: usize> Model for Keeper<B> {
       rows = k.rows;
       prints = Nothing;
       broken = false;
+      heard = k.heard;
     } };
 
     ghost invariant = { λ k. IsKept {n = B} (deque_capacity k.waiting) k.untold k.rows
@@ -98,6 +101,7 @@ impl<const B: usize> Keeper<B> {
             room,
             rows: 0,
             untold: 0,
+            heard: false,
             told: GhostList::new(),
             taken: GhostList::new(),
         })
@@ -120,6 +124,25 @@ impl<const B: usize> Keeper<B> {
         self.rows += 1;
         self.untold += 1;
         Ok(())
+    }
+
+    /// Listens from now on for an outcome.
+    pub fn listen(&mut self)
+        ensures heard { self.new.heard ≡ false }
+        ensures rows { self.new.rows ≡ self.old.rows }
+        ensures told { self.new.told ≡ self.old.told }
+        ensures snapshots { self.new.snapshots ≡ self.old.snapshots }
+        ensures prints { self.new.prints ≡ self.old.prints }
+        ensures sink { self.new.sink ≡ self.old.sink }
+    {
+        self.heard = false;
+    }
+
+    /// Whether an outcome was told since.
+    pub fn heard(&self) -> bool
+        ensures { result ≡ self.now.heard }
+    {
+        self.heard
     }
 
     /// Every bank has come to a tick.
@@ -198,6 +221,7 @@ impl<const B: usize> Outcomes<B> for Keeper<B> {
     {
         keep(&mut self.waiting, row, &outcome);
         self.untold -= 1;
+        self.heard = true;
         self.told = self.told.and(&Told::Became(row, outcome));
     }
 }

@@ -1,7 +1,9 @@
 -- What contracts see of a module.
 use Rattle.std.specs.Prelude.{◌≡◌, ℕ, zero, suc, ◌<◌, Bool, false, List, [], ◌∷◌, IsSomeAnd, slice_get, unwrap_or}
 use Rattle.masked_bytes.specs.Entries.{has_row}
-use Rattle.power_recovery.specs.Kept.{stands_at}
+use Rattle.cell_rows.specs.Device.{ArrayState}
+use Rattle.power_recovery.specs.Kept.{KeptState, stands_at}
+use Rattle.bank_invariant.specs.Holds.{stands_for}
 use Rattle.module_shape.specs.{Addresses.{module_of, bank_shape}, declared.raw.RawShape.RawShape}
 use Rattle.clock_laws.specs.{Standing.has_waiting, State.ClockState}
 use Rattle.bank_timing.specs.Extending.{first_clock}
@@ -35,6 +37,15 @@ module _ {n m e : ℕ} (module_ : ModuleState n m e) where
   -- the array line of a line: where it stands in its bank
   abbrev pub stands_in : ℕ → ℕ
   stands_in line = stands_at (bank_at (bank_of_line module_.shape module_.seed line)).bank.kept (line_in_bank module_.shape module_.seed line)
+
+  -- what the bank of a line keeps
+  abbrev pub kept_for : ℕ → KeptState n
+  kept_for line = (bank_at (bank_of_line module_.shape module_.seed line)).bank.kept
+
+  -- the bytes that stand for a line now: those that its bank's queue gives, laid over what the array line is read as at which the bank's
+  -- registers and remap table put it
+  abbrev pub stand_now : ArrayState n m → ℕ → List ℕ
+  stand_now array line = stands_for e (kept_for line) array (line_in_bank module_.shape module_.seed line)
 
   -- a row stands in the queue of no bank, and waits at none
   abbrev pub StandsNowhere : ℕ → Type 0

@@ -5,6 +5,7 @@ mod bank;
 mod bank_roles;
 mod finishing;
 mod map;
+mod newest;
 mod roles;
 mod settling;
 mod side_by_side;

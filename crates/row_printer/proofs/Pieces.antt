@@ -26,11 +26,22 @@ pub pieces-snapshot : (t : Reserved) (a b counts d e f g h k : List ℕ) →
     ≡ appended t (a ++ codes "," ++ b ++ codes "," ++ counts ++ join_with_byte 44 (d ∷ e ∷ f ∷ g ∷ h ∷ k ∷ []) ++ codes "\n")
 pieces-snapshot t a b counts d e f g h k = simp append_assoc
 
--- the line of a shape, number by number
-pub pieces-shape : (t : Reserved) (a b d e f g h : List ℕ) →
-    appended (appended (appended (appended (appended (appended (appended (appended t (codes ",shape,0,1,")) (a ++ codes " ")) (b ++ codes " ")) (d ++ codes " ")) (e ++ codes " ")) (f ++ codes " ")) (g ++ codes " ")) (h ++ codes "\n")
-    ≡ appended t (codes ",shape,0,1," ++ join_with_byte 32 (a ∷ b ∷ d ∷ e ∷ f ∷ g ∷ h ∷ []) ++ codes "\n")
-pieces-shape t a b d e f g h = simp append_assoc
+-- the line of a shape, number by number, and what it tells besides
+pub pieces-shape : (t : Reserved) (word version comma a b d e f g h rest : List ℕ) →
+    appended (appended (appended (appended (appended (appended (appended (appended (appended (appended (appended t word) (version ++ comma)) (a ++ codes " ")) (b ++ codes " ")) (d ++ codes " ")) (e ++ codes " ")) (f ++ codes " ")) (g ++ codes " ")) h) rest) (codes "\n")
+    ≡ appended t (word ++ version ++ comma ++ join_with_byte 32 (a ∷ b ∷ d ∷ e ∷ f ∷ g ∷ h ∷ []) ++ rest ++ codes "\n")
+pieces-shape t word version comma a b d e f g h rest = simp append_assoc
+
+pub pieces-rest : (t : Reserved) (a b d e policy home : List ℕ) →
+    appended (appended (appended (appended (appended (appended (appended (appended t (codes " ")) (a ++ codes " ")) (b ++ codes " ")) (d ++ codes " ")) (e ++ codes " ")) policy) (codes " ")) home
+    ≡ appended t (codes " " ++ join_with_byte 32 (a ∷ b ∷ d ∷ e ∷ policy ∷ home ∷ []))
+pieces-rest t a b d e policy home = simp append_assoc
+
+-- the line of a peek
+pub pieces-newest : (t : Reserved) (word a b bytes : List ℕ) →
+    appended (appended (appended (appended (appended t word) (a ++ codes ",")) (b ++ codes ",")) bytes) (codes "\n")
+    ≡ appended t (word ++ a ++ codes "," ++ b ++ codes "," ++ bytes ++ codes "\n")
+pieces-newest t word a b bytes = simp append_assoc
 
 -- the header and that line
 pub pieces-head : (t : Reserved) (a b : List ℕ) → appended (appended t a) b ≡ appended t (a ++ b)

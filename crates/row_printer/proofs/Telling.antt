@@ -1,5 +1,5 @@
 -- What telling one line more adds.
-use Rattle.std.proofs.Common.{◌≡◌, ℕ, List, [], ◌∷◌, ◌++◌, length, append_assoc, refl, ap, sym, ◌∙◌}
+use Rattle.std.proofs.Common.{◌≡◌, ℕ, ◌||◌, Bool, true, false, List, [], ◌∷◌, ◌++◌, length, append_assoc, refl, ap, sym, ◌∙◌}
 use Rattle.std.proofs.lemmas.List.{append-nil}
 use Rattle.result_rows.{specs.Table.with_outcome, specs.declared.Outcome.Outcome, proofs.TableLemmas.length-with_outcome}
 use Rattle.row_printer.specs.{Snapshots.{snapshot_line, snapshots_text}, Telling.{told_line, told_text, outcomes_in, recorded}, declared.snapshot.Snapshot.Snapshot}
@@ -42,3 +42,8 @@ module _ {n : ℕ} where
   pub length-recorded : (outcomes : List (ℕ × Outcome n)) (table : List (Outcome n)) → length (recorded outcomes table) ≡ length table
   length-recorded [] table = refl
   length-recorded (one ∷ outcomes) table = length-recorded outcomes (with_outcome table one.0 one.1) ∙ length-with_outcome table one.0 one.1
+
+-- an outcome that is told is heard, whatever was heard before
+pub heard-one : (heard : Bool) → true ≡ (heard || true)
+heard-one true = refl
+heard-one false = refl

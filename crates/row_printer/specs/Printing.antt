@@ -1,14 +1,14 @@
 -- What contracts see of a printer of rows.
-use Rattle.std.specs.Prelude.{◌≡◌, ℕ, ◌≤◌, Bool, true, false, List, [], ◌++◌, Option, replicate}
+use Rattle.std.specs.Prelude.{◌≡◌, ℕ, ◌≤◌, ◌||◌, Bool, true, false, List, [], ◌++◌, Option, replicate}
 use Rattle.pcm_io.specs.{Faults.Rose, Giving.AppendsPrefix, Reserved.Reserved}
 use Rattle.result_rows.specs.{declared.Outcome.Outcome, declared.Outcome.TheVariants.Unset}
 use Rattle.text_printer.specs.declared.room.TheConstants.{TEXT_ROOM}
 use Rattle.run_text.specs.{Counting.counts_of, Gathering.Printed, declared.counts.Counts.Counts}
-use Rattle.row_printer.specs.{Snapshots.{IsShown, snapshots_header, snapshots_text}, Telling.{told_head, told_text, outcomes_in, became, recorded, TellsOnce}}
+use Rattle.row_printer.specs.{Snapshots.{IsShown, snapshots_header, snapshots_text}, Telling.{told_head, told_text, outcomes_in, became, recorded, some_told, TellsOnce}}
 use Rattle.row_printer.specs.{declared.snapshot.Snapshot.Snapshot, declared.told.Shown.Shown, declared.told.Shown.TheVariants.{Nothing, Rows, Snapshots}, declared.told.Told.Told}
 
--- its sink, the text that is still to be written, what it was told and the snapshots, in order, how many rows came, what is printed, and
--- whether a write failed
+-- its sink, the text that is still to be written, what it was told and the snapshots, in order, how many rows came, what is printed,
+-- whether a write failed, and whether an outcome was told since it was to listen for one
 pub record Printing (n : ℕ) (S : Type 0) : Type 0 where
   pub sink : S
   pub text : Reserved
@@ -17,6 +17,7 @@ pub record Printing (n : ℕ) (S : Type 0) : Type 0 where
   pub rows : ℕ
   pub prints : Shown
   pub broken : Bool
+  pub heard : Bool
 
 -- the table that outcomes make of so many rows
 abbrev pub table_of : {n : ℕ} → ℕ → List (Told n) → List (Outcome n)
@@ -56,6 +57,7 @@ module _ {n : ℕ} {S : Type 0} (written : S → Option (List ℕ)) (faults : S 
     pub snapshots : new.snapshots ≡ old.snapshots
     pub rows : new.rows ≡ old.rows
     pub prints : new.prints ≡ old.prints
+    pub heard : new.heard ≡ (old.heard || some_told added)
     pub printing : (before : Option (List ℕ)) (first : ℕ) → IsPrinting before first old → IsPrinting before first new
 
 -- each row was told once, and the outcomes are counted

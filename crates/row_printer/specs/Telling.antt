@@ -1,23 +1,48 @@
 -- The lines of a stream, which tells what became of each row of a trace as soon as that is known, each tick to which the banks came, and what
--- waited in each then, or how worn the array was, where that was asked.
-use Rattle.std.specs.{List.join_with_byte, Prelude.{◌≡◌, ℕ, ◌≤◌, ◌==◌, ◌||◌, Bool, false, IsTrue, is_some, List, [], ◌∷◌, ◌++◌, codes, decimal, Option, Some, None}}
+-- waited in each then, how worn the array was, or what a line's newest bytes were, where that was asked.
+use Rattle.std.specs.{List.join_with_byte, Prelude.{◌≡◌, ℕ, ◌≤◌, ◌==◌, ◌||◌, Bool, true, false, IsTrue, is_some, List, [], ◌∷◌, ◌++◌, codes, decimal, Option, Some, None}}
+use Rattle.hex.specs.Hex.{encode_lower}
 use Rattle.cell_rows.specs.declared.array.LineEnergy.{LineEnergy}
+use Rattle.bank_shape.specs.{declared.Home.Home, declared.Home.TheVariants.{Guarded, Array}, declared.pace.Policy.Policy, declared.pace.Policy.TheVariants.{Pause, Plain, Cancel}}
 use Rattle.result_rows.specs.{Outcomes.op_of, RowText.outcome_fields, Table.with_outcome, declared.Outcome.Outcome}
 use Rattle.row_printer.specs.{declared.told.ArrayWear.ArrayWear, declared.told.Backlog.Backlog, declared.told.Mark.Mark, declared.told.Mark.TheVariants.{Going, Exhausted, Halted}}
-use Rattle.row_printer.specs.{declared.told.Told.Told, declared.told.Told.TheVariants.{Became, Bank, Looked, Settled}, declared.told.ToldShape.ToldShape}
+use Rattle.row_printer.specs.{declared.told.Told.Told, declared.told.Told.TheVariants.{Became, Bank, Looked, Peeked, Settled}, declared.told.ToldShape.ToldShape}
+use Rattle.row_printer.specs.{declared.told.Newest.Newest, declared.told.ToldRest.ToldRest}
 
 -- the first line of a stream
 abbrev pub told_header : List ℕ
 told_header = codes "row,outcome,tick,place,data\n"
 
--- the line of the shape of a module whose lines have n bytes, at tick 0: the version of the format, 1; banks, regions of a bank, lines of a region,
--- spares of a bank, bytes of a line, the writes that the queue of a bank holds, and the reads that may wait there
+-- the word of a policy, and of where registers are kept: as the options have them
+abbrev pub policy_word : Policy → List ℕ
+policy_word Pause = codes "pause"
+policy_word Plain = codes "plain"
+policy_word Cancel = codes "cancel"
+
+abbrev pub home_word : Home → List ℕ
+home_word Guarded = codes "guarded"
+home_word Array = codes "array"
+
+-- the version of the row of a shape: 2 where it tells more than the shape
+abbrev pub version_of : Option ToldRest → ℕ
+version_of None = 1
+version_of (Some rest) = 2
+
+-- what it tells besides: the seed, after how many stores a gap moves, the ticks of a sense and of an iteration, the policy, and where registers are kept
+abbrev pub rest_text : Option ToldRest → List ℕ
+rest_text None = []
+rest_text (Some rest) =
+    codes " "
+    ++ join_with_byte 32 (decimal rest.seed ∷ decimal rest.psi ∷ decimal rest.read_ticks ∷ decimal rest.iter_ticks ∷ policy_word rest.policy ∷ home_word rest.home ∷ [])
+
+-- the line of the shape of a module whose lines have n bytes, at tick 0: the version of the format; banks, regions of a bank, lines of a region,
+-- spares of a bank, bytes of a line, the writes that the queue of a bank holds, and the reads that may wait there; and what else is told
 abbrev pub shape_row : ℕ → ToldShape → List ℕ
 shape_row n shape =
-    codes ",shape,0,1,"
+    codes ",shape,0," ++ decimal (version_of shape.rest) ++ codes ","
     ++ join_with_byte 32
     (decimal shape.banks ∷ decimal shape.regions ∷ decimal shape.lines ∷ decimal shape.spares ∷ decimal n ∷ decimal shape.writes ∷ decimal shape.reads ∷ [])
-    ++ codes "\n"
+    ++ rest_text shape.rest ++ codes "\n"
 
 -- what stands in front of all lines: the header, and behind it the module's shape, where that is told
 abbrev pub told_head : ℕ → Option ToldShape → List ℕ
@@ -52,6 +77,10 @@ wear_row tick wear =
     ++ join_with_byte 32 (decimal wear.pulses ∷ decimal wear.most ∷ decimal wear.mean ∷ decimal wear.pointers ∷ driven_text wear.energy ∷ [])
     ++ codes "\n"
 
+-- the line of a peek at a tick: the line's number, and its newest bytes in lower-case hexadecimal digits
+abbrev pub bytes_row : {n : ℕ} → ℕ → Newest n → List ℕ
+bytes_row tick newest = codes ",bytes," ++ decimal tick ++ codes "," ++ decimal newest.line ++ codes "," ++ encode_lower newest.bytes ++ codes "\n"
+
 module _ {n : ℕ} where
   -- the line of one outcome: the row's number, and what became of it
   abbrev pub told_row : ℕ → Outcome n → List ℕ
@@ -62,6 +91,7 @@ module _ {n : ℕ} where
   told_line (Became row outcome) = told_row row outcome
   told_line (Bank tick backlog) = bank_row tick backlog
   told_line (Looked tick wear) = wear_row tick wear
+  told_line (Peeked tick newest) = bytes_row tick newest
   told_line (Settled tick) = settled_row tick
 
   -- the lines, in the order in which they were told
@@ -75,12 +105,18 @@ module _ {n : ℕ} where
   outcomes_in (Became row outcome ∷ told) = (row, outcome) ∷ outcomes_in told
   outcomes_in (Bank tick backlog ∷ told) = outcomes_in told
   outcomes_in (Looked tick wear ∷ told) = outcomes_in told
+  outcomes_in (Peeked tick newest ∷ told) = outcomes_in told
   outcomes_in (Settled tick ∷ told) = outcomes_in told
 
   -- outcomes as lines
   abbrev pub became : List (ℕ × Outcome n) → List (Told n)
   became [] = []
   became (one ∷ outcomes) = Became one.0 one.1 ∷ became outcomes
+
+  -- whether there is one among outcomes
+  abbrev pub some_told : List (ℕ × Outcome n) → Bool
+  some_told [] = false
+  some_told (one ∷ outcomes) = true
 
   -- a table once these outcomes are told
   abbrev pub recorded : List (ℕ × Outcome n) → List (Outcome n) → List (Outcome n)

@@ -1,5 +1,5 @@
 // A printer of rows.
-ghost use Rattle.std.specs.Prelude.{◌≡◌, ℕ, ◌+◌, ◌<◌, ◌≤◌, List, [], ◌∷◌, ◌++◌, Option, Some, false, IsTrue, is_some, OnOk, OnErr};
+ghost use Rattle.std.specs.Prelude.{◌≡◌, ℕ, ◌+◌, ◌<◌, ◌≤◌, List, [], ◌∷◌, ◌++◌, Option, Some, true, false, IsTrue, is_some, OnOk, OnErr};
 ghost use Rattle.std.specs.Io.KnownBytes.{Appends};
 ghost use Rattle.pcm_io.specs.Faults.{Rose};
 ghost use Rattle.pcm_io.specs.Giving.{AppendsPrefix};
@@ -10,7 +10,7 @@ ghost use Rattle.result_rows.specs.Table.{HasRow, outcome_at, with_outcome};
 ghost use Rattle.run_text.specs.Counting.{counts_of};
 ghost use Rattle.run_text.specs.Shortfall.{any_short};
 ghost use Rattle.row_printer.specs.declared.told.Told.{Told as Line};
-ghost use Rattle.row_printer.specs.declared.told.Told.TheVariants.{Bank, Looked, Settled};
+ghost use Rattle.row_printer.specs.declared.told.Told.TheVariants.{Bank, Looked, Peeked, Settled};
 ghost use Rattle.row_printer.specs.Telling.{outcomes_in, TellsOnce};
 ghost use Rattle.row_printer.specs.declared.snapshot.Snapshot.{Snapshot as Taken};
 ghost use Rattle.row_printer.specs.Snapshots.{IsShown, is_due, takes_snapshots};
@@ -19,7 +19,7 @@ ghost use Rattle.row_printer.specs.Printing.{IsPrinting, Prints, PrintsOn, strea
 
 use crate::snapshot::{Snapshot, print_snapshot, snapshots_header};
 use crate::text::{print_head, print_told};
-use crate::told::{ArrayWear, Backlog, Shown, Told};
+use crate::told::{ArrayWear, Backlog, Newest, Shown, Told};
 use ghost_list::GhostList;
 use pcm_io::{Sink, Text, WriteFault};
 use result_rows::{Outcome, Outcomes};
@@ -44,6 +44,8 @@ pub struct RowPrinter<const B: usize, S: Sink + Drop> {
     prints: Shown,
     // Whether a write failed.
     broken: bool,
+    // Whether an outcome was told since it began to listen.
+    heard: bool,
     counts: Counts,
 }
 
@@ -61,6 +63,7 @@ impl<const B: usize, S: Sink + Drop> Model for RowPrinter<B, S> {
       rows = p.rows;
       prints = p.prints;
       broken = p.broken;
+      heard = p.heard;
     } };
 
     ghost invariant = { λ p. IsTold p.prints p.text (items p.told) p.rows p.counts };
@@ -89,6 +92,7 @@ impl<const B: usize, S: Sink + Drop> RowPrinter<B, S> {
             rows: 0,
             prints,
             broken: false,
+            heard: false,
             counts: Counts::none(),
         }
     }
@@ -169,6 +173,48 @@ impl<const B: usize, S: Sink + Drop> RowPrinter<B, S> {
             &mut *self.sink,
         );
         self.told = self.told.and(&line);
+    }
+
+    /// Tells what a line's newest bytes are, where every bank has come to a tick.
+    pub fn peeked(&mut self, tick: u64, newest: Newest<B>)
+        ensures rows { self.new.rows ≡ self.old.rows }
+        ensures told { self.new.told ≡ self.old.told ++ Peeked tick newest.entry ∷ [] }
+        ensures snapshots { self.new.snapshots ≡ self.old.snapshots }
+        ensures prints { self.new.prints ≡ self.old.prints }
+        ensures printing { (before : Option (List ℕ)) (first : ℕ)
+            → IsPrinting S.written S.faults before first self.old
+            → IsPrinting S.written S.faults before first self.new }
+    {
+        let line = Told::Peeked(tick, newest);
+        self.broken = print_line(
+            &line,
+            self.prints,
+            self.broken,
+            &mut self.text,
+            &mut *self.sink,
+        );
+        self.told = self.told.and(&line);
+    }
+
+    /// Listens from now on for an outcome.
+    pub fn listen(&mut self)
+        ensures heard { self.new.heard ≡ false }
+        ensures rows { self.new.rows ≡ self.old.rows }
+        ensures told { self.new.told ≡ self.old.told }
+        ensures snapshots { self.new.snapshots ≡ self.old.snapshots }
+        ensures prints { self.new.prints ≡ self.old.prints }
+        ensures printing { (before : Option (List ℕ)) (first : ℕ)
+            → IsPrinting S.written S.faults before first self.old
+            → IsPrinting S.written S.faults before first self.new }
+    {
+        self.heard = false;
+    }
+
+    /// Whether an outcome was told since.
+    pub fn heard(&self) -> bool
+        ensures { result ≡ self.now.heard }
+    {
+        self.heard
     }
 
     /// Whether a snapshot is to stand behind the rows that came.
@@ -320,6 +366,7 @@ impl<const B: usize, S: Sink + Drop> Outcomes<B> for RowPrinter<B, S> {
             &mut *self.sink,
         );
         self.counts.count(&outcome);
+        self.heard = true;
         self.told = self.told.and(&line);
     }
 }

@@ -1,5 +1,6 @@
 // What a stream tells.
 
+use bank_shape::{Home, Policy};
 use cell_rows::LineEnergy;
 use result_rows::Outcome;
 
@@ -12,6 +13,8 @@ pub enum Told<const B: usize> {
     Bank(u64, Backlog),
     /// How worn the array is, where every bank has come to this tick.
     Looked(u64, ArrayWear),
+    /// What a line's newest bytes are, where every bank has come to this tick.
+    Peeked(u64, Newest<B>),
     /// Every bank has come to this tick.
     Settled(u64),
 }
@@ -38,6 +41,15 @@ pub enum Mark {
     Exhausted,
     /// One of its control lines is worn: no line write is begun any more.
     Halted,
+}
+
+/// The newest bytes of a line.
+#[derive(Clone, Copy, PartialEq)]
+pub struct Newest<const B: usize> {
+    /// The line, from 0.
+    pub line: u32,
+    /// Its bytes: those that its bank accepted last, 0 where it accepted none.
+    pub bytes: [u8; B],
 }
 
 /// How worn the array of a module is.
@@ -70,6 +82,25 @@ pub struct ToldShape {
     pub writes: u32,
     /// How many reads may wait at a bank.
     pub reads: u32,
+    /// What the words of the module say besides, where all of it is told.
+    pub rest: Option<ToldRest>,
+}
+
+/// What the words of a module say besides its shape: by both it is one that serves rows just so, but for how its cells wear.
+#[derive(Clone, Copy, Drop, PartialEq, Eq)]
+pub struct ToldRest {
+    /// Picks the keys of the randomiser, and of each cell how it wears.
+    pub seed: u64,
+    /// After how many stores in a region its gap moves.
+    pub psi: u32,
+    /// Ticks of a sense.
+    pub read_ticks: u32,
+    /// Ticks of one iteration of a line write.
+    pub iter_ticks: u32,
+    /// What becomes of a line write where a read comes.
+    pub policy: Policy,
+    /// Where the registers of a bank are kept.
+    pub home: Home,
 }
 
 /// What is printed of a stream as its rows are served.

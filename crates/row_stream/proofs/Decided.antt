@@ -4,7 +4,7 @@ use Rattle.std.{specs.Prelude.{Ok, Err}, proofs.lemmas.List.reverse-reverse}
 use Rattle.trace_reader.specs.declared.event.Event.{Event}
 use Rattle.right_runs.specs.Runs.{RunsRightTo}
 use Rattle.row_printer.specs.Printing.{table_of}
-use Rattle.trace_stream.specs.{Asked.events_in, Stream.{front_of, stream_of}, declared.asked.Asked.Asked, declared.asked.Asked.TheVariants.{Happens, Settle, Query, Look, Until}}
+use Rattle.trace_stream.specs.{Asked.events_in, Stream.{front_of, stream_of}, declared.asked.Asked.Asked, declared.asked.Asked.TheVariants.{Happens, Settle, Query, Look, Peek, Until, UntilAny}}
 use Rattle.row_stream.specs.{Asking.read_of, Ending.rows_of, Laws.{FaultyLaw, ReadLaw, SettleLaw, without_settles}}
 
 module _ {S : Type 0} (left : S → Option (List ℕ)) (taken faults : S → ℕ) where
@@ -25,7 +25,9 @@ no-events (Happens event ∷ before) = ap (λ events. event ∷ events) (no-even
 no-events (Settle tick ∷ before) = no-events before
 no-events (Query tick ∷ before) = no-events before
 no-events (Look tick ∷ before) = no-events before
+no-events (Peek peek ∷ before) = no-events before
 no-events (Until until ∷ before) = no-events before
+no-events (UntilAny until ∷ before) = no-events before
 
 pub settle-law : SettleLaw
 settle-law n m e raw seed off asked module_ array places told ended =

@@ -13,7 +13,7 @@ use Rattle.right_runs.specs.{Ends.BankEnd, Runs.RunsRightTo}
 use Rattle.run_laws.specs.Finishing.{IsFinishedTo}
 use Rattle.pcm_module.specs.{Asking.asked_for, Draining.IsLastCut, State.{AreEndsOf, ModuleState, bank_at}}
 use Rattle.row_printer.specs.{Printing.table_of, Telling.became, declared.snapshot.Snapshot.Snapshot, declared.told.Shown.Shown, declared.told.Told.Told}
-use Rattle.trace_stream.specs.{Asked.events_in, declared.asked.Asked.Asked, declared.asked.Asked.TheVariants.{Happens, Settle, Query, Look, Until}}
+use Rattle.trace_stream.specs.{Asked.events_in, declared.asked.Asked.Asked, declared.asked.Asked.TheVariants.{Happens, Settle, Query, Look, Peek, Until, UntilAny}}
 use Rattle.row_stream.specs.{Asking.{behind_of, behind_op, cut_if, tick_reached, with_cut}, Ending.{IsLeft, told_along}, Serving.{ComeByBanks, IsServing, SnapsAlong, told_so_far}}
 use Rattle.row_stream.{specs.declared.stop.Behind.Behind, specs.declared.stop.Behind.TheVariants.{Nothing, Going, Off}, proofs.Tables.rows-are}
 
@@ -45,7 +45,9 @@ last-cut (Happens event ∷ before) tick is reached = (sym reached, op-cut event
 last-cut (Settle at ∷ before) tick is reached = absurd (cc is)
 last-cut (Query at ∷ before) tick is reached = absurd (cc is)
 last-cut (Look at ∷ before) tick is reached = absurd (cc is)
+last-cut (Peek peek ∷ before) tick is reached = absurd (cc is)
 last-cut (Until until ∷ before) tick is reached = absurd (cc is)
+last-cut (UntilAny until ∷ before) tick is reached = absurd (cc is)
 
 module _ {n m e : ℕ} (raw : RawShape) (seed : ℕ) (asked : List (Asked n)) (module_ : ModuleState n m e) (array : ArrayState n m) (places : ℕ) (told : List (Told n)) (shown : Shown) (snaps : List Snapshot)
     (had : IsServing raw seed asked module_ array places told shown snaps) where

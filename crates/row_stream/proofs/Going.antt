@@ -18,7 +18,7 @@ use Rattle.trace_rows.specs.Rows.{asks_of}
 use Rattle.row_printer.specs.{Printing.{Printing, PrintsOn, table_of, table_told}, Snapshots.{AddsDue, is_due}, Telling.{became, outcomes_in, recorded, TellsOnce}}
 use Rattle.row_printer.specs.{declared.snapshot.Snapshot.Snapshot, declared.told.Shown.Shown, declared.told.Told.Told, declared.told.Told.TheVariants.{Bank, Settled}}
 use Rattle.row_printer.proofs.Telling.{outcomes-same}
-use Rattle.trace_stream.specs.{Asked.events_in, declared.asked.Asked.Asked, declared.asked.Asked.TheVariants.{Happens, Settle, Query, Look}}
+use Rattle.trace_stream.specs.{Asked.events_in, declared.asked.Asked.Asked, declared.asked.Asked.TheVariants.{Happens, Settle, Query, Look, Peek}}
 use Rattle.row_stream.specs.{Answering.{backlog_of, banks_told}, Looking.IsSnapshot}
 use Rattle.row_stream.specs.Serving.{ComeByBanks, ComeFor, ComeInOrder, ComeOfBank, HasServed, IsServing, SnapsAlong, lines_of, told_before, told_so_far}
 use Rattle.row_stream.proofs.{Growing.{none, longer, open-last, replays-longer}, Order.{ToldSo, come-by-banks, come-in-order, come-of-bank, in_rest}, Standing.ends-now}
@@ -288,6 +288,46 @@ module _ {n m e : ℕ} (raw : RawShape) (seed : ℕ) (asked : List (Asked n)) (m
             outcomes,
             order,
             record { module_ = new; array = after; served = subst Q counted now.1; tick = tick; rises = omega (arith, had.tick, rises); settled = settled; reached = tt },
+            tells2 ∙ ap (λ t. t ++ lines) tells,
+            tt,
+          );
+          snaps = (snaps, subst (λ s. SnapsAlong e raw seed s asked had.history told had.along snaps) (sym shows) had.snaps, snapped);
+          now = (refl, refl);
+          served = now.1;
+          counted = counted;
+          tick = tick;
+          in_time = omega (arith, tick, in_time);
+        },
+        refl {a = told_so_far had},
+      )
+
+  -- so is a peek
+  pub serving-peek : (at line : ℕ) (new : ModuleState n m e) (after : ArrayState n m) (places2 : ℕ) (told1 told2 : List (Told n)) (shown2 : Shown) (snaps2 : List Snapshot)
+      → places2 ≡ places → (outcomes : List (ℕ × Outcome n)) → told1 ≡ told ++ became outcomes → ComeByBanks raw seed false (events_in asked) raw.banks outcomes → told2 ≡ told1 ++ lines_of (Peek (record { tick = at; line = line })) new after
+      → new.shape ≡ module_.shape → new.seed ≡ module_.seed → new.finished ≡ false → new.tick ≡ at → module_.tick ≤ at → ((bank : ℕ) → bank < new.shape.banks → IsSomeAnd (slice_get new.banks bank) (IsAtTick at)) → line < total_of new.shape
+      → at ≤ latest_tick → new.rows_below ≡ module_.rows_below
+      → length (table_of places2 told1) ≡ length (table_of places told)
+      → ((h : ℕ → List (TimedEvent n m)) (rows : List (AskedRow n)) → Replays h rows module_ array (table_of places told)
+      → (added : ℕ → List (TimedEvent n m)) × Replays (λ bank. added bank ++ h bank) rows new after (table_of places2 told1))
+      → shown2 ≡ shown → snaps2 ≡ snaps
+      → (has : IsServing raw seed (Peek (record { tick = at; line = line }) ∷ asked) new after places2 told2 shown2 snaps2) × (told_before (Peek (record { tick = at; line = line })) asked (told_so_far has) ≡ told_so_far had)
+  serving-peek at line new after places2 told1 told2 shown2 snaps2 counts outcomes tells order tells2 shape seeded going tick rises settled exists in_time bound size leads shows snapped =
+      let lines : List (Told n) = lines_of (Peek (record { tick = at; line = line })) new after in
+      let now = settled-served new after places2 told1 told2 lines (refl) counts tells2 shape seeded going bound size leads in
+      let h : ℕ → List (TimedEvent n m) = λ bank. now.0 bank ++ had.history bank in
+      let counted : places2 ≡ length (events_in asked) = counts ∙ had.counted in
+      let Q : ℕ → Type 0 = λ k. HasServed raw seed (events_in asked) h new after (table_of k told2) in (
+        record {
+          history = h;
+          along = (
+            had.history,
+            told,
+            had.along,
+            now.0,
+            refl,
+            outcomes,
+            order,
+            record { module_ = new; array = after; served = subst Q counted now.1; tick = tick; rises = omega (arith, had.tick, rises); settled = (settled, exists); reached = tt },
             tells2 ∙ ap (λ t. t ++ lines) tells,
             tt,
           );

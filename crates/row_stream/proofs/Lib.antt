@@ -7,6 +7,7 @@ pub mod Order
 mod Backlogs
 pub mod Going
 mod Ticks
+pub mod Hearing
 pub mod Nowhere
 pub mod Turning
 pub mod Tables

@@ -4,7 +4,7 @@ use Rattle.std.{specs.Prelude.{All, IfSome, IsSomeAnd, filter, slice_get, unwrap
 use Rattle.std.proofs.lemmas.List.Elements.{All-head, All-tail, All-nil, All-cons}
 use Rattle.cell_rows.specs.Device.{ArrayState}
 use Rattle.trace_reader.specs.declared.event.Event.{Event}
-use Rattle.result_rows.specs.declared.Outcome.{Outcome}
+use Rattle.result_rows.specs.{Outcomes.tick_of, declared.Outcome.Outcome}
 use Rattle.result_rows.specs.declared.Outcome.TheVariants as out
 use Rattle.row_rules.specs.{Lines.IsOfLines, Table.is_of, declared.Asks.Asks, declared.Asks.TheVariants.{Reads, Writes, Cuts}}
 use Rattle.bank_shape.specs.{declared.clock.Action.Action, declared.pace.Pace.Pace}
@@ -17,7 +17,7 @@ use Rattle.right_runs.specs.Banks.{bank_of_line, line_in_bank}
 use Rattle.run_laws.proofs.Mixing.{lines_law}
 use Rattle.pcm_module.specs.{Asking.{asked_by, asked_for}, Replaying.{Replays, ReplaysIn}, Settling.IsAtTick, State.{ModuleState, bank_at, first_bank}}
 use Rattle.pcm_module.specs.Telling.{has_standing, rows_at}
-use Rattle.row_stream.{specs.Reaching.{CameBetween, CameBy, IsUnsetOrAt}, proofs.Ticks.{IsOrTells, done-between, done-by, first-told, own-done, told-own}}
+use Rattle.row_stream.{specs.Reaching.{CameBetween, CameBy, IsUnsetOrAt}, specs.Serving.IsFirstTurn, proofs.Ticks.{IsOrTells, done-between, done-by, done-there, first-told, own-done, told-own}}
 
 -- the bank of a module that is there
 pub at-bank : {n m e : ℕ} (module_ : ModuleState n m e) (bank : ℕ) (clock : ClockState n m e) → slice_get module_.banks bank ≡ Some clock → bank_at module_ bank ≡ clock
@@ -143,6 +143,23 @@ module _ {n m e : ℕ} (h : ℕ → List (TimedEvent n m)) (events : List (Event
           let is_clock : was ≡ clock = cc in
           own (subst (λ (c : ClockState n m e). ReplaysIn module_ bank (h bank) (asked_for events) array results c) is_clock there)
 
+  -- and so does the first action in any bank
+  first-behind : (limit tick bank : ℕ) (o : Option (ClockState n m e)) → module_.tick < limit → bank < module_.shape.banks → slice_get module_.banks bank ≡ o → IsSomeAnd o (IsAtTick module_.tick)
+      → tick ≡ next_end limit (bank_at module_ bank) → module_.tick < tick
+  first-behind limit tick bank None below exists none at ends = absurd at
+  first-behind limit tick bank (Some clock) below exists found at ends =
+      let stood : clock.tick ≡ module_.tick = at in
+      let later = next-later bank limit clock exists found (omega (arith, stood, below)) in
+      let same : tick ≡ next_end limit clock = ends ∙ ap (λ (c : ClockState n m e). next_end limit c) (at-bank module_ bank clock found) in
+      omega (arith, later, same, stood)
+
+  pub first-later : (limit tick : ℕ) → module_.tick < limit → ((bank : ℕ) → bank < module_.shape.banks → IsSomeAnd (slice_get module_.banks bank) (IsAtTick module_.tick)) → IsFirstTurn limit module_ tick
+      → module_.tick < tick
+  first-later limit tick below settled turn = elim turn.2 [
+    | inl same ↦ omega (arith, same, below)
+    | inr found ↦ first-behind limit tick found.0 (slice_get module_.banks found.0) below found.1 refl (settled found.0 found.1) found.2
+  ]
+
   -- once all banks have come to a tick, ..
   module _ (new : ModuleState n m e) (after : ArrayState n m) (recorded : List (Outcome n)) (added : ℕ → List (TimedEvent n m))
       (now : Replays (λ bank. added bank ++ h bank) (asked_for events) new after recorded) (shape : new.shape ≡ module_.shape) (seeded : new.seed ≡ module_.seed)
@@ -215,6 +232,20 @@ module _ {n m e : ℕ} (h : ℕ → List (TimedEvent n m)) (events : List (Event
             let at : w.clock.tick ≡ low = at-tick low (slice_get module_.banks bank) w.clock w.found (stood bank exists) in
             let later = next-later bank reached w.clock exists w.found (omega (arith, at, rises)) in
             done-between _ _ _ _ (h bank) _ array results w.clock w.stood _ _ (added bank) after recorded w.next w.goes is.some_read_ticks is.some_iter_ticks reached low reached (omega (arith, at, later)) (quiet bank) w.at
+
+    -- .. and where no action ended before, in any bank, at that tick
+    pub told-there : ((bank : ℕ) → IsQuiet (added bank)) → (to : ℕ) → ((bank : ℕ) → bank < module_.shape.banks → reached ≤ next_end to (bank_at module_ bank))
+        → (row : ℕ) → 1 ≤ row → row ≤ length events → (outcome_in recorded row ≡ outcome_in results row) ⊎ (tick_of (outcome_in recorded row) ≡ Some reached)
+    told-there quiet to none row least most = elim (told-then (λ t. t ≡ reached) by row least most) [
+      | inl same ↦ inl same
+      | inr when ↦ inr (when.2 ∙ ap Some when.1)
+    ]
+      where
+        by : (bank : ℕ) → bank < module_.shape.banks → All (λ x. x.tick ≡ reached) (added bank)
+        by bank exists =
+            let w = went-on bank exists in
+            let ends : reached ≤ next_end to w.clock = subst (λ (c : ClockState n m e). reached ≤ next_end to c) (at-bank module_ bank w.clock w.found) (none bank exists) in
+            done-there _ _ _ _ (h bank) _ array results w.clock w.stood _ _ (added bank) after recorded w.next w.goes is.some_read_ticks is.some_iter_ticks to reached ends (quiet bank) w.at
 
     -- .. and where it is the one at which the next action ends of the bank where a row stood, the row has no outcome yet, or has it at that tick
     pub first-nowhere : ((bank : ℕ) → IsQuiet (added bank)) → (bank to row : ℕ) (clock : ClockState n m e) → bank < module_.shape.banks → slice_get module_.banks bank ≡ Some clock → rows_at module_ bank row ≡ true

@@ -12,7 +12,7 @@ use Rattle.trace_reader.specs.declared.fault.TraceFault.{TraceFault}
 use Rattle.trace_reader.specs.declared.fault.Kind.TheVariants as kind
 use Rattle.trace_stream.specs.{Arrived.StaysEnded, Asked.{IsAskedFor, IsUnreached, events_in, reached_at, rows_after, tick_asked, tick_named}, Kept.{LacksHeader, decides}}
 use Rattle.trace_stream.specs.Stream.{AsksNext, HasFault, HasFront, IsOfText, Opens, Standing, asked_from, front_from, front_of, front_rows, records_left, stream_of}
-use Rattle.trace_stream.specs.{declared.asked.Asked.Asked, declared.asked.Asked.TheVariants.{Happens, Settle, Query, Look, Until}, declared.fault.StreamFault.StreamFault}
+use Rattle.trace_stream.specs.{declared.asked.Asked.Asked, declared.asked.Asked.TheVariants.{Happens, Settle, Query, Look, Peek, Until, UntilAny}, declared.fault.StreamFault.StreamFault}
 use Rattle.trace_stream.proofs.Runs.{HasAsked, asked-all, asked-faulty, asked-first, asked-front, asked-more}
 use Rattle.trace_stream.specs.declared.fault.StreamFault.TheVariants as fault
 use Rattle.row_stream.specs.{Asking.{behind_of, read_of, tick_reached}, Refusing.{GoesAsFar, WentOn}, Serving.{IsServing, told_before, told_so_far}}
@@ -60,7 +60,9 @@ behind-reached tick (Happens event) before = refl
 behind-reached tick (Settle at) before = refl
 behind-reached tick (Query at) before = refl
 behind-reached tick (Look at) before = refl
+behind-reached tick (Peek peek) before = refl
 behind-reached tick (Until until) before = refl
+behind-reached tick (UntilAny until) before = refl
 
 -- a row as it was read, whatever it reached since
 reread : {n : ℕ} (stood tick reached : ℕ) → stood ≡ tick → (asked : Asked n) → IsUnreached stood asked → reached_at tick (reached_at reached asked) ≡ asked
@@ -68,6 +70,10 @@ reread stood tick reached same (Happens event) is = refl
 reread stood tick reached same (Settle at) is = refl
 reread stood tick reached same (Query at) is = refl
 reread stood tick reached same (Look at) is = refl
+reread stood tick reached same (Peek peek) is = refl
+reread {n = n} stood tick reached same (UntilAny until) is =
+    let again : ℕ → Asked n = λ t. UntilAny (record { limit = until.limit; reached = t }) in
+    ap again (sym (is ∙ same))
 reread {n = n} stood tick reached same (Until until) is =
     let again : ℕ → Asked n = λ t. Until (record { row = until.row; limit = until.limit; reached = t }) in
     ap again (sym (is ∙ same))
@@ -78,7 +84,9 @@ later-asked lines before now (Happens event) lawful named = record { rises = nam
 later-asked lines before now (Settle at) lawful named = (named, lawful.1)
 later-asked lines before now (Query at) lawful named = (named, lawful.1)
 later-asked lines before now (Look at) lawful named = (named, lawful.1)
+later-asked lines before now (Peek peek) lawful named = (named, lawful.1, lawful.2)
 later-asked lines before now (Until until) lawful named = (named, lawful.1)
+later-asked lines before now (UntilAny until) lawful named = (named, lawful.1)
 
 -- and so behind the tick 0, of as many lines
 pub asked-ever : {n : ℕ} (lines total before : ℕ) (asked : Asked n) → lines ≡ total → IsAskedFor lines before asked → IsAskedFor total 0 asked
@@ -151,7 +159,9 @@ module _ {n m e : ℕ} {stops : Bool} (raw : RawShape) (seed : ℕ) {S : Type 0}
     rows-next tick (Settle at) rows is = omega (arith, is, had.rows)
     rows-next tick (Query at) rows is = omega (arith, is, had.rows)
     rows-next tick (Look at) rows is = omega (arith, is, had.rows)
+    rows-next tick (Peek peek) rows is = omega (arith, is, had.rows)
     rows-next tick (Until until) rows is = omega (arith, is, had.rows)
+    rows-next tick (UntilAny until) rows is = omega (arith, is, had.rows)
 
     -- a row more was served
     pub fed-more : (new_module : ModuleState n m e) (after : ArrayState n m) (places2 : ℕ) (told2 : List (Told n)) (shown2 : Shown) (snaps2 : List Snapshot) (new : S) (now : Standing) (asked : Asked n) (stands : Behind)
@@ -190,7 +200,9 @@ module _ {n m e : ℕ} {stops : Bool} (raw : RawShape) (seed : ℕ) {S : Type 0}
         reaches (Settle at) before = refl
         reaches (Query at) before = refl
         reaches (Look at) before = refl
+        reaches (Peek peek) before = refl
         reaches (Until until) before = refl
+        reaches (UntilAny until) before = refl
 
     -- a printer that was told the same
     pub fed-same : (places2 : ℕ) (told2 : List (Told n)) (shown2 : Shown) (snaps2 : List Snapshot) → places2 ≡ places → told2 ≡ told → shown2 ≡ shown → snaps2 ≡ snaps

@@ -99,7 +99,7 @@ module _ {n m e : ℕ} (xs : List (TimedEvent n m)) (clock : ClockState n m e) (
       omega (arith, before, later)
 
   -- all that end by then end there
-  all-there : (to tick : ℕ) → tick ≡ next_end to clock → (added : List (TimedEvent n m)) → Lawful clock.bank.kept.shape clock.pace e (added ++ xs) → IsQuiet added
+  all-there : (to tick : ℕ) → tick ≤ next_end to clock → (added : List (TimedEvent n m)) → Lawful clock.bank.kept.shape clock.pace e (added ++ xs) → IsQuiet added
       → last_tick (added ++ xs) ≤ tick → All (λ x. x.tick ≡ tick) added
   all-there to tick is [] lawful quiet top = All-nil (λ (x : TimedEvent n m). x.tick ≡ tick)
   all-there to tick is (x ∷ rest) lawful quiet top =
@@ -230,6 +230,10 @@ module _ {n m e : ℕ} (shape : BankShape) (pace : Pace) (tick rows : ℕ) (xs :
     pub done-between : (to low reached : ℕ) → low < next_end to clock → IsQuiet added → next.tick ≡ reached → All (λ x. (low < x.tick) × (x.tick ≤ reached)) added
     done-between to low reached none quiet at = all-between xs clock array reads iters had.leads to low reached none added lawful quiet (top reached at)
 
+    -- and all of it there, where that is no later than the next action ends
+    pub done-there : (to reached : ℕ) → reached ≤ next_end to clock → IsQuiet added → next.tick ≡ reached → All (λ x. x.tick ≡ reached) added
+    done-there to reached none quiet at = all-there xs clock array reads iters had.leads to reached none added lawful quiet (top reached at)
+
     -- by events of such ticks each of its rows has the outcome that it had, or one of such a tick
     pub told-own : (Is : ℕ → Type 0) → All (λ x. Is x.tick) added → All (λ a. IsOrTells Is (outcome_in results a.row) (outcome_in recorded a.row)) asked
     told-own Is there =
@@ -262,4 +266,4 @@ module _ {n m e : ℕ} (shape : BankShape) (pace : Pace) (tick rows : ℕ) (xs :
         Told row = IsOrTells (λ t. t ≡ reached) (outcome_in results row) (outcome_in recorded row)
 
         there : All (λ x. x.tick ≡ reached) added
-        there = all-there xs clock array reads iters had.leads to reached is added lawful quiet (top reached at)
+        there = done-there to reached (omega (arith, is)) quiet at

@@ -12,9 +12,10 @@ use Rattle.pcm_module.specs.{Asking.asked_for, Replaying.{Replays, ReplaysIn}, S
 use Rattle.pcm_module.proofs.Asked.{standing_asked}
 use Rattle.row_printer.specs.{Printing.{Printing, PrintsOn, table_of, table_told}, Telling.{became, outcomes_in, recorded, TellsOnce}, declared.snapshot.Snapshot.Snapshot}
 use Rattle.row_printer.{specs.declared.told.Shown.Shown, specs.declared.told.Told.Told, proofs.Telling.outcomes-same}
-use Rattle.trace_stream.specs.{Asked.events_in, declared.asked.Asked.Asked, declared.asked.Asked.TheVariants.Until, declared.asked.Until.Until as Waited}
-use Rattle.row_stream.specs.{Asking.tick_reached, Reaching.{CameBetween, CameBy, HasReached}}
-use Rattle.row_stream.specs.Serving.{ComeByBanks, ComeByTurns, HasServed, HaveCome, IsNextTurn, IsServing, SnapsAlong, TakesTurns, last_turn, lines_of, told_before, told_so_far}
+use Rattle.trace_stream.specs.{Asked.events_in, declared.asked.Asked.Asked, declared.asked.Asked.TheVariants.{Until, UntilAny}, declared.asked.Until.Until as Waited}
+use Rattle.trace_stream.specs.declared.asked.UntilAny.{UntilAny as Awaited}
+use Rattle.row_stream.specs.{Asking.tick_reached, Reaching.{CameBetween, CameBy, HasFound, HasReached}}
+use Rattle.row_stream.specs.Serving.{ComeByBanks, ComeByTurns, HasServed, HaveCome, IsFirstTurn, IsNextTurn, IsServing, SnapsAlong, TakesTurns, last_turn, lines_of, told_before, told_so_far}
 use Rattle.row_stream.proofs.{Growing.none, Order.{ToldSo, are-told, come-by-banks, told-both}}
 
 -- histories that are the same replay the same
@@ -32,7 +33,7 @@ replays-same {n} {m} h k asked module_ array results same f = record {
 }
 
 module _ {n m e : ℕ} (raw : RawShape) (seed : ℕ) (asked : List (Asked n)) (module_ : ModuleState n m e) (array : ArrayState n m) (places : ℕ) (told : List (Told n)) (shown : Shown) (snaps : List Snapshot)
-    (had : IsServing raw seed asked module_ array places told shown snaps) (row limit : ℕ) where
+    (had : IsServing raw seed asked module_ array places told shown snaps) (Next : ModuleState n m e → ℕ → Type 0) where
   -- turn by turn its banks went on, as far as this module, and told this
   pub record HasGone (new : ModuleState n m e) (after : ArrayState n m) (places2 : ℕ) (told2 : List (Told n)) : Type 0 where
     pub ticks : List ℕ
@@ -42,7 +43,7 @@ module _ {n m e : ℕ} (raw : RawShape) (seed : ℕ) (asked : List (Asked n)) (m
     pub order : ComeByTurns raw seed (events_in asked) (tick_reached asked) ticks outcomes
     pub added : ℕ → List (TimedEvent n m)
     pub served : HasServed raw seed (events_in asked) (λ bank. added bank ++ had.history bank) new after (table_of places2 told2)
-    pub takes : TakesTurns e raw seed row limit asked had.history told ticks (λ bank. added bank ++ had.history bank) new after outcomes
+    pub takes : TakesTurns e raw seed Next asked had.history told ticks (λ bank. added bank ++ had.history bank) new after outcomes
     pub counted : places2 ≡ places
 
   -- so they came to a tick
@@ -79,7 +80,7 @@ module _ {n m e : ℕ} (raw : RawShape) (seed : ℕ) (asked : List (Asked n)) (m
   }
 
   -- the first turn
-  pub gone-first : (new : ModuleState n m e) (after : ArrayState n m) (places2 : ℕ) (told2 : List (Told n))
+  abbrev pub gone-first : (new : ModuleState n m e) (after : ArrayState n m) (places2 : ℕ) (told2 : List (Told n))
       → new.shape ≡ module_.shape → new.seed ≡ module_.seed → new.finished ≡ false → new.rows_below ≡ module_.rows_below → places2 ≡ places
       → length (table_of places2 told2) ≡ length (table_of places told)
       → ((h : ℕ → List (TimedEvent n m)) (rows : List (AskedRow n)) → Replays h rows module_ array (table_of places told)
@@ -128,12 +129,12 @@ module _ {n m e : ℕ} (raw : RawShape) (seed : ℕ) (asked : List (Asked n)) (m
         record { outcomes = came.outcomes; told = came.told; are = subst (λ k. Q raw k) gone.served.seeded (subst (λ r. Q r mid.seed) gone.served.shape came.are) }
 
     -- a turn more
-    pub gone-more : (new : ModuleState n m e) (after : ArrayState n m) (places2 : ℕ) (told2 : List (Told n))
+    abbrev pub gone-more : (new : ModuleState n m e) (after : ArrayState n m) (places2 : ℕ) (told2 : List (Told n))
         → new.shape ≡ mid.shape → new.seed ≡ mid.seed → new.finished ≡ false → new.rows_below ≡ mid.rows_below → places2 ≡ places1
         → length (table_of places2 told2) ≡ length (table_of places1 told1)
         → ((h : ℕ → List (TimedEvent n m)) (rows : List (AskedRow n)) → Replays h rows mid between (table_of places1 told1)
         → (added : ℕ → List (TimedEvent n m)) × Replays (λ bank. added bank ++ h bank) rows new after (table_of places2 told2))
-        → (tick : ℕ) → mid.tick < tick → new.tick ≡ tick → ((bank : ℕ) → bank < new.shape.banks → IsSomeAnd (slice_get new.banks bank) (IsAtTick tick)) → IsNextTurn row limit mid tick
+        → (tick : ℕ) → mid.tick < tick → new.tick ≡ tick → ((bank : ℕ) → bank < new.shape.banks → IsSomeAnd (slice_get new.banks bank) (IsAtTick tick)) → Next mid tick
         → ToldSo (ComeSo (CameBetween mid.tick tick)) told1 told2 → HasGone new after places2 told2
     gone-more new after places2 told2 shape seeded going bound counted size leads tick rises at settled next order =
         let led = leads (λ bank. gone.added bank ++ had.history bank) (asked_for (events_in asked)) gone.served.replays in
@@ -175,47 +176,90 @@ module _ {n m e : ℕ} (raw : RawShape) (seed : ℕ) (asked : List (Asked n)) (m
           counted = counted ∙ gone.counted;
         }
 
-    -- behind all turns a settle until is served
-    pub serving-until : (until : Waited) (places2 : ℕ) (told2 : List (Told n)) (shown2 : Shown) (snaps2 : List Snapshot) → until.row ≡ row → until.limit ≡ limit
-        → places2 ≡ places1 → told2 ≡ told1 ++ lines_of (Until until) mid between → mid.tick ≡ until.reached
-        → ((bank : ℕ) → bank < mid.shape.banks → IsSomeAnd (slice_get mid.banks bank) (IsAtTick until.reached)) → until.reached ≤ latest_tick
-        → HasReached module_.tick until (outcome_in (table_of places1 told1) until.row) → shown2 ≡ shown → snaps2 ≡ snaps
-        → (has : IsServing raw seed (Until until ∷ asked) mid between places2 told2 shown2 snaps2) × (told_before (Until until) asked (told_so_far has) ≡ told_so_far had)
-    serving-until until places2 told2 shown2 snaps2 named within counts tells tick settled in_time reached shows snapped =
-        let lines : List (Told n) = lines_of (Until until) mid between in
-        let h : ℕ → List (TimedEvent n m) = λ bank. gone.added bank ++ had.history bank in
-        let counted : places2 ≡ length (events_in asked) = counts ∙ gone.counted ∙ had.counted in
-        let same : table_of places1 told1 ≡ table_of places2 told2 =
-        let P : ℕ → List (Told n) → Type 0 = λ k t. table_of places1 told1 ≡ table_of k t in
-        subst (λ (k : ℕ). P k told2) (sym counts)
-        (subst (P places1) (sym tells) (ap (λ (o : List (ℕ × Outcome n)). recorded o (replicate places1 (none {n = n}))) (sym (outcomes-same told1 lines refl)))) in
-        let R : List (Outcome n) → Type 0 = λ results. HasServed raw seed (events_in asked) h mid between results in
-        let now : HasServed raw seed (events_in asked) h mid between (table_of places2 told2) = subst R same gone.served in
-        let Q : ℕ → Type 0 = λ k. HasServed raw seed (events_in asked) h mid between (table_of k told2) in
-        let T : ℕ → Type 0 = λ k. HasReached k until (outcome_in (table_of places2 told2) until.row) in
-        let U : ℕ → Type 0 = λ k. HasReached (tick_reached asked) until (outcome_in (table_of k told2) until.row) in
-        let here : HasReached module_.tick until (outcome_in (table_of places2 told2) until.row) = subst (λ (results : List (Outcome n)). HasReached module_.tick until (outcome_in results until.row)) same reached in
-        let Turns : ℕ → ℕ → Type 0 = λ r l. TakesTurns e raw seed r l asked had.history told gone.ticks h mid between gone.outcomes in (
-          record {
-            history = h;
-            along = (
-              had.history,
-              told,
-              had.along,
-              gone.added,
-              refl,
-              gone.outcomes,
-              (gone.ticks, sym tick ∙ gone.at, gone.order),
-              record { module_ = mid; array = between; served = subst Q counted now; tick = tick; rises = omega (arith, had.tick, reached.from); settled = settled; reached = subst U counted (subst T had.tick here) },
-              tells ∙ ap (λ t. t ++ lines) gone.tells,
-              subst (λ (l : ℕ). Turns until.row l) (sym within) (subst (λ (r : ℕ). Turns r limit) (sym named) gone.takes),
-            );
-            snaps = (snaps, subst (λ s. SnapsAlong e raw seed s asked had.history told had.along snaps) (sym shows) had.snaps, snapped);
-            now = (refl, refl);
-            served = now;
-            counted = counted;
-            tick = tick;
-            in_time = omega (arith, tick, in_time);
-          },
-          refl {a = told_so_far had},
-        )
+-- behind all turns a settle until is served, ..
+module _ {n m e : ℕ} (raw : RawShape) (seed : ℕ) (asked : List (Asked n)) (module_ : ModuleState n m e) (array : ArrayState n m) (places : ℕ) (told : List (Told n)) (shown : Shown) (snaps : List Snapshot)
+    (had : IsServing raw seed asked module_ array places told shown snaps) (mid : ModuleState n m e) (between : ArrayState n m) (places1 : ℕ) (told1 : List (Told n)) where
+  -- of a row
+  pub serving-until : (until : Waited) (gone : HasGone raw seed asked module_ array places told shown snaps had (IsNextTurn until.row until.limit) mid between places1 told1)
+      (places2 : ℕ) (told2 : List (Told n)) (shown2 : Shown) (snaps2 : List Snapshot) → places2 ≡ places1 → told2 ≡ told1 ++ lines_of (Until until) mid between → mid.tick ≡ until.reached
+      → ((bank : ℕ) → bank < mid.shape.banks → IsSomeAnd (slice_get mid.banks bank) (IsAtTick until.reached)) → until.reached ≤ latest_tick
+      → HasReached module_.tick until (outcome_in (table_of places1 told1) until.row) → shown2 ≡ shown → snaps2 ≡ snaps
+      → (has : IsServing raw seed (Until until ∷ asked) mid between places2 told2 shown2 snaps2) × (told_before (Until until) asked (told_so_far has) ≡ told_so_far had)
+  serving-until until gone places2 told2 shown2 snaps2 counts tells tick settled in_time reached shows snapped =
+      let lines : List (Told n) = lines_of (Until until) mid between in
+      let h : ℕ → List (TimedEvent n m) = λ bank. gone.added bank ++ had.history bank in
+      let counted : places2 ≡ length (events_in asked) = counts ∙ gone.counted ∙ had.counted in
+      let same : table_of places1 told1 ≡ table_of places2 told2 =
+      let P : ℕ → List (Told n) → Type 0 = λ k t. table_of places1 told1 ≡ table_of k t in
+      subst (λ (k : ℕ). P k told2) (sym counts)
+      (subst (P places1) (sym tells) (ap (λ (o : List (ℕ × Outcome n)). recorded o (replicate places1 (none {n = n}))) (sym (outcomes-same told1 lines refl)))) in
+      let R : List (Outcome n) → Type 0 = λ results. HasServed raw seed (events_in asked) h mid between results in
+      let now : HasServed raw seed (events_in asked) h mid between (table_of places2 told2) = subst R same gone.served in
+      let Q : ℕ → Type 0 = λ k. HasServed raw seed (events_in asked) h mid between (table_of k told2) in
+      let T : ℕ → Type 0 = λ k. HasReached k until (outcome_in (table_of places2 told2) until.row) in
+      let U : ℕ → Type 0 = λ k. HasReached (tick_reached asked) until (outcome_in (table_of k told2) until.row) in
+      let here : HasReached module_.tick until (outcome_in (table_of places2 told2) until.row) = subst (λ (results : List (Outcome n)). HasReached module_.tick until (outcome_in results until.row)) same reached in (
+        record {
+          history = h;
+          along = (
+            had.history,
+            told,
+            had.along,
+            gone.added,
+            refl,
+            gone.outcomes,
+            (gone.ticks, sym tick ∙ gone.at, gone.order),
+            record { module_ = mid; array = between; served = subst Q counted now; tick = tick; rises = omega (arith, had.tick, reached.from); settled = settled; reached = subst U counted (subst T had.tick here) },
+            tells ∙ ap (λ t. t ++ lines) gone.tells,
+            gone.takes,
+          );
+          snaps = (snaps, subst (λ s. SnapsAlong e raw seed s asked had.history told had.along snaps) (sym shows) had.snaps, snapped);
+          now = (refl, refl);
+          served = now;
+          counted = counted;
+          tick = tick;
+          in_time = omega (arith, tick, in_time);
+        },
+        refl {a = told_so_far had},
+      )
+
+  -- .. and one of any row
+  pub serving-any : (until : Awaited) (gone : HasGone raw seed asked module_ array places told shown snaps had (IsFirstTurn until.limit) mid between places1 told1)
+      (places2 : ℕ) (told2 : List (Told n)) (shown2 : Shown) (snaps2 : List Snapshot) → places2 ≡ places1 → told2 ≡ told1 ++ lines_of (UntilAny until) mid between → mid.tick ≡ until.reached
+      → ((bank : ℕ) → bank < mid.shape.banks → IsSomeAnd (slice_get mid.banks bank) (IsAtTick until.reached)) → until.reached ≤ latest_tick
+      → HasFound module_.tick until gone.outcomes → shown2 ≡ shown → snaps2 ≡ snaps
+      → (has : IsServing raw seed (UntilAny until ∷ asked) mid between places2 told2 shown2 snaps2) × (told_before (UntilAny until) asked (told_so_far has) ≡ told_so_far had)
+  serving-any until gone places2 told2 shown2 snaps2 counts tells tick settled in_time reached shows snapped =
+      let lines : List (Told n) = lines_of (UntilAny until) mid between in
+      let h : ℕ → List (TimedEvent n m) = λ bank. gone.added bank ++ had.history bank in
+      let counted : places2 ≡ length (events_in asked) = counts ∙ gone.counted ∙ had.counted in
+      let same : table_of places1 told1 ≡ table_of places2 told2 =
+      let P : ℕ → List (Told n) → Type 0 = λ k t. table_of places1 told1 ≡ table_of k t in
+      subst (λ (k : ℕ). P k told2) (sym counts)
+      (subst (P places1) (sym tells) (ap (λ (o : List (ℕ × Outcome n)). recorded o (replicate places1 (none {n = n}))) (sym (outcomes-same told1 lines refl)))) in
+      let R : List (Outcome n) → Type 0 = λ results. HasServed raw seed (events_in asked) h mid between results in
+      let now : HasServed raw seed (events_in asked) h mid between (table_of places2 told2) = subst R same gone.served in
+      let Q : ℕ → Type 0 = λ k. HasServed raw seed (events_in asked) h mid between (table_of k told2) in (
+        record {
+          history = h;
+          along = (
+            had.history,
+            told,
+            had.along,
+            gone.added,
+            refl,
+            gone.outcomes,
+            (gone.ticks, sym tick ∙ gone.at, gone.order, subst (λ (k : ℕ). HasFound k until gone.outcomes) had.tick reached),
+            record { module_ = mid; array = between; served = subst Q counted now; tick = tick; rises = omega (arith, had.tick, reached.from); settled = settled; reached = tt },
+            tells ∙ ap (λ t. t ++ lines) gone.tells,
+            gone.takes,
+          );
+          snaps = (snaps, subst (λ s. SnapsAlong e raw seed s asked had.history told had.along snaps) (sym shows) had.snaps, snapped);
+          now = (refl, refl);
+          served = now;
+          counted = counted;
+          tick = tick;
+          in_time = omega (arith, tick, in_time);
+        },
+        refl {a = told_so_far had},
+      )

@@ -1,7 +1,7 @@
 -- What the rows of a stream ask. Here it stands with the newest first.
 use Rattle.std.specs.Prelude.{◌≡◌, ℕ, Bool, true, false, List, [], ◌∷◌, ◌++◌, reverse}
 use Rattle.trace_reader.specs.{declared.event.EventOp.EventOp, declared.event.EventOp.TheVariants.{Read, Write, Mask, Cut}}
-use Rattle.trace_stream.specs.{Asked.reached_at, declared.asked.Asked.Asked, declared.asked.Asked.TheVariants.{Happens, Settle, Query, Look, Until}}
+use Rattle.trace_stream.specs.{Asked.reached_at, declared.asked.Asked.Asked, declared.asked.Asked.TheVariants.{Happens, Settle, Query, Look, Peek, Until, UntilAny}}
 use Rattle.row_stream.specs.{declared.stop.Behind.Behind, declared.stop.Behind.TheVariants.{Nothing, Going, Off}}
 
 module _ {n : ℕ} where
@@ -12,7 +12,9 @@ module _ {n : ℕ} where
   tick_reached (Settle tick ∷ before) = tick
   tick_reached (Query tick ∷ before) = tick
   tick_reached (Look tick ∷ before) = tick
+  tick_reached (Peek peek ∷ before) = peek.tick
   tick_reached (Until until ∷ before) = until.reached
+  tick_reached (UntilAny until ∷ before) = until.reached
 
   -- rows as they were read: then no settle until had gone on from the tick of the row before
   abbrev pub read_of : List (Asked n) → List (Asked n)
@@ -32,7 +34,9 @@ module _ {n : ℕ} where
   behind_of (Settle tick ∷ before) = Going
   behind_of (Query tick ∷ before) = Going
   behind_of (Look tick ∷ before) = Going
+  behind_of (Peek peek ∷ before) = Going
   behind_of (Until until ∷ before) = Going
+  behind_of (UntilAny until ∷ before) = Going
 
   -- these rows are the first of all, which stand in their order
   abbrev pub BeginsWith : List (Asked n) → List (Asked n) → Type 0

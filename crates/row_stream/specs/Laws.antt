@@ -5,7 +5,7 @@ use Rattle.module_shape.specs.declared.raw.RawShape.{RawShape}
 use Rattle.right_runs.specs.{Ends.BankEnd, Runs.RunsRightTo}
 use Rattle.pcm_module.specs.State.{AreEndsOf, ModuleState}
 use Rattle.row_printer.specs.{Printing.table_of, Telling.{outcomes_in, tells, TellsOnce}, declared.told.Told.Told}
-use Rattle.trace_stream.specs.{Arrived.Comes, Asked.events_in, declared.asked.Asked.Asked, declared.asked.Asked.TheVariants.{Happens, Settle, Query, Look, Until}}
+use Rattle.trace_stream.specs.{Arrived.Comes, Asked.events_in, declared.asked.Asked.Asked, declared.asked.Asked.TheVariants.{Happens, Settle, Query, Look, Peek, Until, UntilAny}}
 use Rattle.trace_stream.specs.declared.fault.StreamFault.{StreamFault}
 use Rattle.row_stream.specs.{Asking.read_of, Ending.{HasEnded, rows_of}, Sourcing.{IsFaulty, IsRead}}
 
@@ -19,14 +19,16 @@ EachToldLaw =
     (n m e : ℕ) (raw : RawShape) (seed : ℕ) (off : Bool) (asked : List (Asked n)) (module_ : ModuleState n m e) (array : ArrayState n m) (places : ℕ) (told : List (Told n))
     → TellsOnce places (outcomes_in told) → HasEnded raw seed off asked module_ array places told → TellsEach places told
 
--- what rows ask that don't settle: a query does, a look, and a settle until
+-- what rows ask that don't settle: a query does, a look, a peek, and a settle until
 abbrev pub without_settles : {n : ℕ} → List (Asked n) → List (Asked n)
 without_settles [] = []
 without_settles (Happens event ∷ before) = Happens event ∷ without_settles before
 without_settles (Settle tick ∷ before) = without_settles before
 without_settles (Query tick ∷ before) = without_settles before
 without_settles (Look tick ∷ before) = without_settles before
+without_settles (Peek peek ∷ before) = without_settles before
 without_settles (Until until ∷ before) = without_settles before
+without_settles (UntilAny until ∷ before) = without_settles before
 
 -- what a stream with rows that settle leaves is a right run of its rows without them
 abbrev pub SettleLaw : Type 0

@@ -1,8 +1,9 @@
--- How far a settle goes until a row has its outcome.
-use Rattle.std.specs.Prelude.{◌≡◌, ◌≢◌, ◌⊎◌, ℕ, ◌<◌, ◌≤◌, List, Some, None}
+-- How far a settle goes until a row has its outcome, or until any row has.
+use Rattle.std.specs.Prelude.{◌≡◌, ◌≢◌, ◌⊎◌, ℕ, ◌<◌, ◌≤◌, All, List, [], Some, None}
 use Rattle.result_rows.specs.{Outcomes.tick_of, declared.Outcome.Outcome, declared.Outcome.TheVariants.Unset}
 use Rattle.bank_timing.specs.Extending.{outcome_in}
-use Rattle.trace_stream.specs.{declared.asked.Asked.Asked, declared.asked.Asked.TheVariants.{Happens, Settle, Query, Look, Until}, declared.asked.Until.Until as Waited}
+use Rattle.trace_stream.specs.{declared.asked.Asked.Asked, declared.asked.Asked.TheVariants.{Happens, Settle, Query, Look, Peek, Until, UntilAny}, declared.asked.Until.Until as Waited}
+use Rattle.trace_stream.specs.declared.asked.UntilAny.{UntilAny as Awaited}
 
 module _ {n : ℕ} where
   -- a row has no outcome yet, or has it at this tick
@@ -25,10 +26,20 @@ module _ {n : ℕ} where
     pub known : (outcome ≢ Unset) ⊎ (until.reached ≡ until.limit)
     pub first : (until.reached ≡ before) ⊎ IsUnsetOrAt until.reached outcome
 
-  -- so it is of a row that is one, by the outcomes that are known behind it
+  -- a settle until any row has its outcome went on to the first tick behind which one has that had none, and told these outcomes: no tick before the one at
+  -- which the module stood; its own, where none came; and where it went on at all, all of them came at the tick that it reached
+  pub record HasFound (before : ℕ) (until : Awaited) (outcomes : List (ℕ × Outcome n)) : Type 0 where
+    pub from : before ≤ until.reached
+    pub within : until.reached ≤ until.limit
+    pub known : (outcomes ≢ []) ⊎ (until.reached ≡ until.limit)
+    pub first : (until.reached ≡ before) ⊎ All (λ one. tick_of one.1 ≡ Some until.reached) outcomes
+
+  -- a settle until a row has its outcome goes so far, by the outcomes that are known behind it
   abbrev pub ReachesBy : ℕ → Asked n → List (Outcome n) → Type 0
   ReachesBy before (Happens event) outcomes = Unit {0}
   ReachesBy before (Settle tick) outcomes = Unit {0}
   ReachesBy before (Query tick) outcomes = Unit {0}
   ReachesBy before (Look tick) outcomes = Unit {0}
+  ReachesBy before (Peek peek) outcomes = Unit {0}
   ReachesBy before (Until until) outcomes = HasReached before until (outcome_in outcomes until.row)
+  ReachesBy before (UntilAny until) outcomes = Unit {0}

@@ -1,5 +1,5 @@
 -- What a module and what was told have to do with what the rows of a stream asked so far. What was asked stands with the newest first.
-use Rattle.std.specs.Prelude.{◌≡◌, ℕ, zero, suc, ◌+◌, ◌<◌, ◌≤◌, Bool, true, false, List, [], ◌∷◌, ◌++◌, length, Some, All, IsSomeAnd, slice_get}
+use Rattle.std.specs.Prelude.{◌≡◌, ◌⊎◌, ℕ, zero, suc, ◌+◌, ◌<◌, ◌≤◌, Bool, true, false, List, [], ◌∷◌, ◌++◌, length, Some, All, IsSomeAnd, slice_get}
 use Rattle.cell_rows.specs.Device.{ArrayState}
 use Rattle.trace_reader.specs.{Rows.latest_tick, declared.event.Event.Event}
 use Rattle.result_rows.specs.{Outcomes.tick_of, declared.Outcome.Outcome}
@@ -7,13 +7,13 @@ use Rattle.row_rules.specs.{Answers.is_queued, declared.Asks.Asks, declared.Asks
 use Rattle.trace_rows.specs.Rows.{asks_of}
 use Rattle.bank_model.specs.Timing.{TimedEvent}
 use Rattle.bank_timing.specs.Extending.{next_end}
-use Rattle.module_shape.specs.declared.raw.RawShape.{RawShape}
+use Rattle.module_shape.specs.{Limits.total_of, declared.raw.RawShape.RawShape}
 use Rattle.right_runs.specs.Banks.{bank_of_line}
-use Rattle.pcm_module.specs.{Asking.asked_for, Replaying.Replays, Settling.IsAtTick, State.{ModuleState, bank_at}, Telling.{is_asked_of, rows_at}}
+use Rattle.pcm_module.specs.{Asking.asked_for, Replaying.Replays, Settling.IsAtTick, State.{ModuleState, bank_at, stand_now}, Telling.{is_asked_of, rows_at}}
 use Rattle.row_printer.specs.{Printing.{Printing, table_of}, Snapshots.{AddsDue, is_due}, Telling.became, declared.snapshot.Snapshot.Snapshot, declared.told.Shown.Shown}
-use Rattle.row_printer.specs.{declared.told.Told.Told, declared.told.Told.TheVariants.{Looked, Settled}}
-use Rattle.trace_stream.specs.{Asked.events_in, declared.asked.Asked.Asked, declared.asked.Asked.TheVariants.{Happens, Settle, Query, Look, Until}}
-use Rattle.row_stream.specs.{Answering.banks_told, Asking.tick_reached, Looking.{IsSnapshot, wear_of}, Reaching.{CameBetween, CameBy, ReachesBy}}
+use Rattle.row_printer.specs.{declared.told.Told.Told, declared.told.Told.TheVariants.{Looked, Peeked, Settled}}
+use Rattle.trace_stream.specs.{Asked.events_in, declared.asked.Asked.Asked, declared.asked.Asked.TheVariants.{Happens, Settle, Query, Look, Peek, Until, UntilAny}}
+use Rattle.row_stream.specs.{Answering.banks_told, Asking.tick_reached, Looking.{IsSnapshot, wear_of}, Reaching.{CameBetween, CameBy, HasFound, ReachesBy}}
 
 module _ {n m e : ℕ} (raw : RawShape) (seed : ℕ) where
   -- a module of these sizes and this seed was handed these events, and histories of its banks, which asked for exactly these, led to it over the
@@ -79,23 +79,29 @@ module _ {n : ℕ} (raw : RawShape) (seed : ℕ) where
       × (last_turn first ticks < tick) × ComeByBanks false events raw.banks own × All (λ one. CameBetween (last_turn first ticks) tick one.1) own
 
   -- the outcomes that are told as a row is served, behind these rows: of an event what comes for it; of what settles bank by bank, and of a settle until so
-  -- turn by turn, from the tick that was reached before to the one that it reaches
+  -- turn by turn, from the tick that was reached before to the one that it reaches; where that names no row, to the first behind which one has an outcome
   abbrev pub ComeInOrder : Asked n → List (Asked n) → List (ℕ × Outcome n) → Type 0
   ComeInOrder (Happens event) before outcomes = ComeFor (event ∷ events_in before) (length (events_in before) + 1) (asks_of event.op) outcomes
   ComeInOrder (Settle tick) before outcomes = ComeByBanks false (events_in before) raw.banks outcomes
   ComeInOrder (Query tick) before outcomes = ComeByBanks false (events_in before) raw.banks outcomes
   ComeInOrder (Look tick) before outcomes = ComeByBanks false (events_in before) raw.banks outcomes
+  ComeInOrder (Peek peek) before outcomes = ComeByBanks false (events_in before) raw.banks outcomes
   ComeInOrder (Until until) before outcomes =
       (ticks : List ℕ) × (until.reached ≡ last_turn (tick_reached before) ticks) × ComeByTurns (events_in before) (tick_reached before) ticks outcomes
+  ComeInOrder (UntilAny until) before outcomes =
+      (ticks : List ℕ) × (until.reached ≡ last_turn (tick_reached before) ticks) × ComeByTurns (events_in before) (tick_reached before) ticks outcomes
+      × HasFound (tick_reached before) until outcomes
 
 -- the lines that answer a row besides outcomes, at the module and the array behind it: of a settle its tick, of a query what waits in each bank before
--- it, of a look how worn the array is before it, and of a settle until the tick that it reached
+-- it, of a look how worn the array is before it, of a peek the line's newest bytes before it, and of a settle until the tick that it reached
 abbrev pub lines_of : {n m e : ℕ} → Asked n → ModuleState n m e → ArrayState n m → List (Told n)
 lines_of (Happens event) module_ array = []
 lines_of (Settle tick) module_ array = Settled tick ∷ []
 lines_of (Query tick) module_ array = banks_told module_ tick module_.shape.banks ++ Settled tick ∷ []
 lines_of {e = e} (Look tick) module_ array = Looked tick (wear_of e array) ∷ Settled tick ∷ []
+lines_of (Peek peek) module_ array = Peeked peek.tick (record { line = peek.line; bytes = stand_now module_ array peek.line }) ∷ Settled peek.tick ∷ []
 lines_of (Until until) module_ array = Settled until.reached ∷ []
+lines_of (UntilAny until) module_ array = Settled until.reached ∷ []
 
 -- whether a snapshot is due behind a row, of so many with a number: a row that settles has none
 abbrev pub is_due_behind : {n : ℕ} → Shown → Asked n → ℕ → Bool
@@ -103,21 +109,32 @@ is_due_behind shown (Happens event) rows = is_due shown rows
 is_due_behind shown (Settle tick) rows = false
 is_due_behind shown (Query tick) rows = false
 is_due_behind shown (Look tick) rows = false
+is_due_behind shown (Peek peek) rows = false
 is_due_behind shown (Until until) rows = false
+is_due_behind shown (UntilAny until) rows = false
 
 -- a row stands in a bank of a module, and this is the tick at which the action ends that runs there next, but at most a limit
 abbrev pub IsNextTurn : {n m e : ℕ} → (row limit : ℕ) → ModuleState n m e → ℕ → Type 0
 IsNextTurn row limit module_ tick =
     (bank : ℕ) × (bank < module_.shape.banks) × (rows_at module_ bank row ≡ true) × (tick ≡ next_end limit (bank_at module_ bank))
 
+-- and this is the first tick at which an action ends that runs in any bank, but at most a limit
+abbrev pub IsFirstTurn : {n m e : ℕ} → (limit : ℕ) → ModuleState n m e → ℕ → Type 0
+IsFirstTurn limit module_ tick =
+    (tick ≤ limit) × ((bank : ℕ) → bank < module_.shape.banks → tick ≤ next_end limit (bank_at module_ bank))
+    × ((tick ≡ limit) ⊎ ((bank : ℕ) × (bank < module_.shape.banks) × (tick ≡ next_end limit (bank_at module_ bank))))
+
 module _ {n m : ℕ} (e : ℕ) (raw : RawShape) (seed : ℕ) where
-  -- behind a settle, a query or a look each bank has come to its tick, and behind a settle until to the one that it reached
+  -- behind a settle, a query, a look or a peek each bank has come to its tick, and behind a settle until to the one that it reached; a peek is of a line of the module
   abbrev pub HasSettled : Asked n → ModuleState n m e → Type 0
   HasSettled (Happens event) module_ = Unit {0}
   HasSettled (Settle tick) module_ = (bank : ℕ) → bank < module_.shape.banks → IsSomeAnd (slice_get module_.banks bank) (IsAtTick tick)
   HasSettled (Query tick) module_ = (bank : ℕ) → bank < module_.shape.banks → IsSomeAnd (slice_get module_.banks bank) (IsAtTick tick)
   HasSettled (Look tick) module_ = (bank : ℕ) → bank < module_.shape.banks → IsSomeAnd (slice_get module_.banks bank) (IsAtTick tick)
+  HasSettled (Peek peek) module_ =
+      ((bank : ℕ) → bank < module_.shape.banks → IsSomeAnd (slice_get module_.banks bank) (IsAtTick peek.tick)) × (peek.line < total_of module_.shape)
   HasSettled (Until until) module_ = (bank : ℕ) → bank < module_.shape.banks → IsSomeAnd (slice_get module_.banks bank) (IsAtTick until.reached)
+  HasSettled (UntilAny until) module_ = (bank : ℕ) → bank < module_.shape.banks → IsSomeAnd (slice_get module_.banks bank) (IsAtTick until.reached)
 
   -- of these rows exactly those outcomes were told which these histories gave so far, at the module and the array to which they led, which is
   -- at the tick of the last row, no earlier than before, and each of its banks where that settles, no sooner and no later than where that waits for a row
@@ -136,28 +153,32 @@ module _ {n m : ℕ} (e : ℕ) (raw : RawShape) (seed : ℕ) where
     pub settled : (bank : ℕ) → bank < module_.shape.banks → IsSomeAnd (slice_get module_.banks bank) (IsAtTick tick)
 
   -- a settle until, behind rows of which this was told, brought the banks from turn to turn to these ticks: first to the one that was reached before, and then each
-  -- time to the next one at which an action ends of the bank where its row stands. As they came to a tick, what they had done by it was told
-  abbrev pub TakesTurns : (row limit : ℕ) → List (Asked n) → (ℕ → List (TimedEvent n m)) → List (Told n) → List ℕ
+  -- time to the next one, by how the module stood. As they came to a tick, what they had done by it was told
+  abbrev pub TakesTurns : (Next : ModuleState n m e → ℕ → Type 0) → List (Asked n) → (ℕ → List (TimedEvent n m)) → List (Told n) → List ℕ
       → (ℕ → List (TimedEvent n m)) → ModuleState n m e → ArrayState n m → List (ℕ × Outcome n) → Type 0
-  TakesTurns row limit before earlier said [] h module_ array outcomes =
+  TakesTurns Next before earlier said [] h module_ array outcomes =
       (added : ℕ → List (TimedEvent n m)) × ((bank : ℕ) → h bank ≡ added bank ++ earlier bank)
       × HaveCome (tick_reached before) before h module_ array (said ++ became outcomes)
-  TakesTurns row limit before earlier said (tick ∷ ticks) h module_ array outcomes =
+  TakesTurns Next before earlier said (tick ∷ ticks) h module_ array outcomes =
       (between : ℕ → List (TimedEvent n m)) × (stood : ModuleState n m e) × (held : ArrayState n m) × (known : List (ℕ × Outcome n))
-      × TakesTurns row limit before earlier said ticks between stood held known × IsNextTurn row limit stood tick
+      × TakesTurns Next before earlier said ticks between stood held known × Next stood tick
       × (own : List (ℕ × Outcome n)) × (outcomes ≡ known ++ own)
       × (added : ℕ → List (TimedEvent n m)) × ((bank : ℕ) → h bank ≡ added bank ++ between bank)
       × HaveCome tick before h module_ array (said ++ became outcomes)
 
-  -- where a row is a settle until, it took the turns in whose order outcomes were told
+  -- where a row is a settle until, it took the turns in whose order outcomes were told: to each tick at which an action ends of the bank where its row stands, or,
+  -- where it names no row, of any bank
   abbrev pub GoesByTurns : (asked : Asked n) (before : List (Asked n)) (earlier : ℕ → List (TimedEvent n m)) (said : List (Told n)) (outcomes : List (ℕ × Outcome n))
       → ComeInOrder raw seed asked before outcomes → (ℕ → List (TimedEvent n m)) → ModuleState n m e → ArrayState n m → Type 0
   GoesByTurns (Happens event) before earlier said outcomes order h module_ array = Unit {0}
   GoesByTurns (Settle tick) before earlier said outcomes order h module_ array = Unit {0}
   GoesByTurns (Query tick) before earlier said outcomes order h module_ array = Unit {0}
   GoesByTurns (Look tick) before earlier said outcomes order h module_ array = Unit {0}
+  GoesByTurns (Peek peek) before earlier said outcomes order h module_ array = Unit {0}
   GoesByTurns (Until until) before earlier said outcomes order h module_ array =
-      TakesTurns until.row until.limit before earlier said order.0 h module_ array outcomes
+      TakesTurns (IsNextTurn until.row until.limit) before earlier said order.0 h module_ array outcomes
+  GoesByTurns (UntilAny until) before earlier said outcomes order h module_ array =
+      TakesTurns (IsFirstTurn until.limit) before earlier said order.0 h module_ array outcomes
 
   -- row by row: rows that asked this brought these histories about, and this was told of them. As each row was served, the outcomes were told that
   -- the histories gave then and hadn't given before, no others, bank by bank, and behind them the lines of the row, by the module as it then was; a settle until

@@ -1,8 +1,9 @@
-// What a query and a look are answered.
-ghost use Rattle.std.specs.Prelude.{◌≡◌, ℕ, ◌≤◌, List, ◌++◌, Option};
+// What a query, a look and a peek are answered.
+ghost use Rattle.std.specs.Prelude.{◌≡◌, ℕ, ◌<◌, ◌≤◌, List, ◌++◌, Option};
 ghost use Rattle.ecp_line.specs.Layout.{IsLayout};
 ghost use Rattle.trace_reader.specs.Rows.{latest_tick};
-ghost use Rattle.trace_stream.specs.declared.asked.Asked.TheVariants.{Look, Query};
+ghost use Rattle.module_shape.specs.Limits.{total_of};
+ghost use Rattle.trace_stream.specs.declared.asked.Asked.TheVariants.{Look, Peek as Peeks, Query};
 ghost use Rattle.row_printer.specs.Printing.{IsPrinting};
 ghost use Rattle.row_stream.specs.Answering.{backlog_of, banks_told, mark_of};
 ghost use Rattle.row_stream.specs.Serving.{MayServe, ServesOn};
@@ -10,7 +11,8 @@ ghost use Rattle.row_stream.specs.Serving.{MayServe, ServesOn};
 use bank_timing::clocked::Timed;
 use pcm_io::Sink;
 use pcm_module::Module;
-use row_printer::{Backlog, Mark, RowPrinter};
+use row_printer::{Backlog, Mark, Newest, RowPrinter};
+use trace_stream::Peek;
 use wear_totals::TellsWear;
 
 /// Brings every bank to a tick, and tells, behind what became known by it, what waits in each bank then, and the tick.
@@ -60,6 +62,37 @@ pub fn serve_look<
     let wear = array.array_wear();
     out.looked(tick, wear);
     out.settled(tick);
+}
+
+/// Brings every bank to a tick, and tells, behind what became known by it, what a line's newest bytes are then, and the tick. For the bytes nothing
+/// is sensed.
+pub fn serve_peek<
+    const B: usize,
+    const M: usize,
+    const E: usize,
+    A: TellsWear<B, M, E>,
+    K: Sink + Drop,
+>(pcm: &mut Module<B, M, E>, array: &mut A, peek: &Peek, out: &mut RowPrinter<B, K>)
+    requires layout { IsLayout B M E }
+    requires rises { pcm.old.tick ≤ peek.now.tick }
+    requires in_time { peek.now.tick ≤ latest_tick }
+    requires exists { peek.now.line < total_of pcm.old.shape }
+    requires serving { MayServe pcm.old (A.state array.old) out.old }
+    ensures serves { ServesOn (λ before. Peeks peek.now) pcm.old pcm.new (A.state array.old)
+        (A.state array.new) out.old out.new }
+    ensures printing { (before : Option (List ℕ)) (first : ℕ)
+        → IsPrinting K.written K.faults before first out.old
+        → IsPrinting K.written K.faults before first out.new }
+{
+    pcm.settle(array, peek.tick, out);
+    out.tells_once();
+    let bytes = pcm.newest(array, peek.line);
+    let newest = Newest {
+        line: peek.line,
+        bytes,
+    };
+    out.peeked(peek.tick, newest);
+    out.settled(peek.tick);
 }
 
 // Tells what waits in each bank, in order.

@@ -11,9 +11,9 @@ ghost use Rattle.trace_stream.specs.declared.asked.Asked.TheVariants.{Happens, S
 ghost use Rattle.row_printer.specs.Printing.{IsPrinting};
 ghost use Rattle.row_stream.specs.Serving.{MayServe, ServesOn};
 
-use crate::answering::{serve_look, serve_query};
+use crate::answering::{serve_look, serve_peek, serve_query};
 use crate::looking::show_due;
-use crate::waiting::serve_until;
+use crate::waiting::{serve_until, serve_until_any};
 use pcm_io::Sink;
 use pcm_module::Module;
 use row_printer::RowPrinter;
@@ -23,7 +23,8 @@ use wear_totals::TellsWear;
 
 /// Serves one row of a stream, and tells what became known by it: of an event what its bank did before it and what the event itself
 /// decides, at a power cut what all banks did, and at a settle too, behind which its tick is told, and at a query, behind which what waits in
-/// each bank is told, and its tick, at a look how worn the array is, and at a settle until, which says how far it went. An event has the next number.
+/// each bank is told, and its tick, at a look how worn the array is, at a peek a line's newest bytes, and at a settle until, which says how far it
+/// went. An event has the next number.
 pub fn serve<const B: usize, const M: usize, const E: usize, A: TellsWear<B, M, E>, K: Sink + Drop>(
     pcm: &mut Module<B, M, E>,
     array: &mut A,
@@ -46,7 +47,9 @@ pub fn serve<const B: usize, const M: usize, const E: usize, A: TellsWear<B, M, 
         Asked::Settle(tick) => serve_settle(pcm, array, *tick, out),
         Asked::Query(tick) => serve_query(pcm, array, *tick, out),
         Asked::Look(tick) => serve_look(pcm, array, *tick, out),
+        Asked::Peek(peek) => serve_peek(pcm, array, peek, out),
         Asked::Until(until) => serve_until(pcm, array, until, out),
+        Asked::UntilAny(until) => serve_until_any(pcm, array, until, out),
     }
 }
 

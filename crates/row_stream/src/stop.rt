@@ -51,7 +51,12 @@ pub fn behind_asked<const B: usize>(asked: &Asked<B>) -> Behind
 {
     match asked {
         Asked::Happens(event) => behind_event(&event.op),
-        Asked::Settle(_) | Asked::Query(_) | Asked::Look(_) | Asked::Until(_) => Behind::Going,
+        Asked::Settle(_)
+        | Asked::Query(_)
+        | Asked::Look(_)
+        | Asked::Peek(_)
+        | Asked::Until(_)
+        | Asked::UntilAny(_) => Behind::Going,
     }
 }
 

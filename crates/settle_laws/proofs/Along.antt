@@ -6,7 +6,7 @@ use Rattle.bank_model.specs.Timing.{TimedEvent}
 use Rattle.module_shape.specs.declared.raw.RawShape.{RawShape}
 use Rattle.pcm_module.specs.{Settling.IsAtTick, State.ModuleState}
 use Rattle.row_printer.specs.{Telling.became, declared.told.Told.Told, declared.told.Told.TheVariants.Settled}
-use Rattle.trace_stream.specs.{Asked.events_in, declared.asked.Asked.Asked, declared.asked.Asked.TheVariants.{Happens, Settle, Query, Look, Until}}
+use Rattle.trace_stream.specs.{Asked.events_in, declared.asked.Asked.Asked, declared.asked.Asked.TheVariants.{Happens, Settle, Query, Look, Peek, Until, UntilAny}}
 use Rattle.row_stream.specs.{Asking.tick_reached, Serving.{AreKnown, HasSettled, TellsAlong, lines_of}}
 use Rattle.settle_laws.specs.Settles.{settled_at, settles_in, told_up_to}
 use Rattle.settle_laws.proofs.Lines.{became-none, ends-settled, lines-settle, settled-both, settled-lines, settles-more, up-to}
@@ -44,7 +44,11 @@ module _ {n m : ℕ} (e : ℕ) (raw : RawShape) (seed : ℕ) where
       (let same : at ≡ tick = cc in subst (λ (t : ℕ). IsSomeAnd (slice_get module_.banks bank) (IsAtTick t)) same (settled bank exists))
   banks-then (Look at) tick module_ is settled = λ bank exists.
       (let same : at ≡ tick = cc in subst (λ (t : ℕ). IsSomeAnd (slice_get module_.banks bank) (IsAtTick t)) same (settled bank exists))
+  banks-then (Peek peek) tick module_ is settled = λ bank exists.
+      (let same : peek.tick ≡ tick = cc in subst (λ (t : ℕ). IsSomeAnd (slice_get module_.banks bank) (IsAtTick t)) same (settled.0 bank exists))
   banks-then (Until until) tick module_ is settled = λ bank exists.
+      (let same : until.reached ≡ tick = cc in subst (λ (t : ℕ). IsSomeAnd (slice_get module_.banks bank) (IsAtTick t)) same (settled bank exists))
+  banks-then (UntilAny until) tick module_ is settled = λ bank exists.
       (let same : until.reached ≡ tick = cc in subst (λ (t : ℕ). IsSomeAnd (slice_get module_.banks bank) (IsAtTick t)) same (settled bank exists))
 
   -- no event behind a row comes sooner than the tick that it reached

@@ -2,9 +2,9 @@
 use Rattle.std.proofs.Common.{◌≡◌, ℕ, zero, suc, ◌+◌, List, [], ◌∷◌, ◌++◌, Some, refl, ap, arith}
 use Rattle.cell_rows.specs.Device.{ArrayState}
 use Rattle.result_rows.specs.declared.Outcome.{Outcome}
-use Rattle.pcm_module.specs.State.{ModuleState, bank_at}
-use Rattle.row_printer.specs.{Telling.became, declared.told.Told.Told, declared.told.Told.TheVariants.{Became, Bank, Looked, Settled}}
-use Rattle.trace_stream.specs.{declared.asked.Asked.Asked, declared.asked.Asked.TheVariants.{Happens, Settle, Query, Look, Until}}
+use Rattle.pcm_module.specs.State.{ModuleState, bank_at, stand_now}
+use Rattle.row_printer.specs.{Telling.became, declared.told.Newest.Newest, declared.told.Told.Told, declared.told.Told.TheVariants.{Became, Bank, Looked, Peeked, Settled}}
+use Rattle.trace_stream.specs.{declared.asked.Asked.Asked, declared.asked.Asked.TheVariants.{Happens, Settle, Query, Look, Peek, Until, UntilAny}}
 use Rattle.row_stream.specs.{Answering.{backlog_of, banks_told}, Looking.wear_of, Serving.lines_of}
 use Rattle.settle_laws.specs.Settles.{settled_at, settles_in, told_up_to}
 
@@ -15,6 +15,7 @@ module _ {n : ℕ} where
   settled-lines (Became row outcome ∷ told) = settled-lines told
   settled-lines (Bank tick backlog ∷ told) = settled-lines told
   settled-lines (Looked tick wear ∷ told) = settled-lines told
+  settled-lines (Peeked tick newest ∷ told) = settled-lines told
   settled-lines (Settled tick ∷ told) = suc (settled-lines told)
 
   pub settled-both : (xs ys : List (Told n)) → settled-lines (xs ++ ys) ≡ settled-lines xs + settled-lines ys
@@ -22,6 +23,7 @@ module _ {n : ℕ} where
   settled-both (Became row outcome ∷ xs) ys = settled-both xs ys
   settled-both (Bank tick backlog ∷ xs) ys = settled-both xs ys
   settled-both (Looked tick wear ∷ xs) ys = settled-both xs ys
+  settled-both (Peeked tick newest ∷ xs) ys = settled-both xs ys
   settled-both (Settled tick ∷ xs) ys = let rest = settled-both xs ys in omega (arith, rest)
 
   pub became-none : (outcomes : List (ℕ × Outcome n)) → settled-lines (became outcomes) ≡ 0
@@ -34,6 +36,7 @@ module _ {n : ℕ} where
   up-to (Became row outcome ∷ front) tick rest = ap (λ (told : List (Told n)). Became row outcome ∷ told) (up-to front tick rest)
   up-to (Bank at backlog ∷ front) tick rest = ap (λ (told : List (Told n)). Bank at backlog ∷ told) (up-to front tick rest)
   up-to (Looked at wear ∷ front) tick rest = ap (λ (told : List (Told n)). Looked at wear ∷ told) (up-to front tick rest)
+  up-to (Peeked at newest ∷ front) tick rest = ap (λ (told : List (Told n)). Peeked at newest ∷ told) (up-to front tick rest)
   up-to (Settled at ∷ front) tick rest = ap (λ (told : List (Told n)). Settled at ∷ told) (up-to front tick rest)
 
   -- a row that settles is one more
@@ -80,6 +83,13 @@ module _ {n : ℕ} where
     ends-settled (Look at) tick module_ array is =
         let same : at ≡ tick = cc in
         record { front = Looked at (wear_of e array) ∷ []; whole = ap (λ (t : ℕ). Looked at (wear_of e array) ∷ Settled t ∷ []) same; none = refl }
+    ends-settled (Peek peek) tick module_ array is =
+        let same : peek.tick ≡ tick = cc in
+        let newest : Newest n = record { line = peek.line; bytes = stand_now module_ array peek.line } in
+        record { front = Peeked peek.tick newest ∷ []; whole = ap (λ (t : ℕ). Peeked peek.tick newest ∷ Settled t ∷ []) same; none = refl }
     ends-settled (Until until) tick module_ array is =
+        let same : until.reached ≡ tick = cc in
+        record { front = []; whole = ap (λ (t : ℕ). Settled t ∷ []) same; none = refl }
+    ends-settled (UntilAny until) tick module_ array is =
         let same : until.reached ≡ tick = cc in
         record { front = []; whole = ap (λ (t : ℕ). Settled t ∷ []) same; none = refl }

@@ -15,10 +15,10 @@ use Rattle.clock_laws.specs.State.{ClockState}
 use Rattle.bank_timing.specs.Extending.{outcome_in}
 use Rattle.right_runs.specs.Banks.{bank_of_line, line_in_bank, pacing_in}
 use Rattle.run_laws.proofs.Mixing.{lines_law}
-use Rattle.pcm_module.specs.{Asking.{asked_by, asked_for}, Replaying.ReplaysIn, State.{bank_at, first_bank}, Telling.{comes_to, is_asked_of}}
+use Rattle.pcm_module.specs.{Asking.{asked_by, asked_for}, Replaying.ReplaysIn, State.{bank_at, first_bank, stand_now}, Telling.{comes_to, is_asked_of}}
 use Rattle.row_printer.specs.{Printing.table_of, declared.told.Mark.TheVariants.{Exhausted, Going, Halted}, declared.told.Told.Told}
-use Rattle.row_printer.specs.declared.told.Told.TheVariants.{Bank, Looked, Settled}
-use Rattle.trace_stream.specs.{Asked.events_in, declared.asked.Asked.Asked as StreamAsked, declared.asked.Asked.TheVariants.{Happens as IsEvent, Settle, Query, Look, Until}}
+use Rattle.row_printer.specs.declared.told.Told.TheVariants.{Bank, Looked, Peeked, Settled}
+use Rattle.trace_stream.specs.{Asked.events_in, declared.asked.Asked.Asked as StreamAsked, declared.asked.Asked.TheVariants.{Happens as IsEvent, Settle, Query, Look, Peek, Until, UntilAny}}
 use Rattle.row_stream.specs.{Answering.{backlog_of, banks_told, mark_of}, Asking.tick_reached, Looking.wear_of, Serving.{AreKnown, TellsAlong, lines_of}}
 use Rattle.settle_laws.specs.{Marks.{AreMarksTrue, EndedMarkLaw, IsTrueMark, MarkLaw}, Turns.{AreInTurn, EndedTurnLaw, TellsInTurn, TurnLaw, comes_in, is_decided, is_in_bank}}
 use Rattle.settle_laws.proofs.{Along.events-both, Banks.{IsRight, known_of}, Exhausting.rejected, Halting.{IsHalted, IsOver, halted-now, left-before, left-later, taken-later}}
@@ -57,7 +57,9 @@ module _ {n : ℕ} (raw : RawShape) (seed : ℕ) where
   reached-low (Settle at) before bank tick comes all = absurd (cc comes)
   reached-low (Query at) before bank tick comes all = absurd (cc comes)
   reached-low (Look at) before bank tick comes all = absurd (cc comes)
+  reached-low (Peek peek) before bank tick comes all = absurd (cc comes)
   reached-low (Until until) before bank tick comes all = absurd (cc comes)
+  reached-low (UntilAny until) before bank tick comes all = absurd (cc comes)
 
 all-first : {X : Type 0} (P : X → Type 0) (xs ys : List X) → All P (xs ++ ys) → All P xs
 all-first P [] ys all = All-nil P
@@ -298,7 +300,11 @@ module _ {n m : ℕ} (e : ℕ) (raw : RawShape) (seed : ℕ) (is : IsShape raw) 
       by (Look tick) =
           All-cons (IsTrueLine whole) (Looked tick (wear_of e known.array)) (Settled tick ∷ []) tt
           (All-cons (IsTrueLine whole) (Settled tick) [] tt (All-nil (IsTrueLine whole)))
+      by (Peek peek) =
+          All-cons (IsTrueLine whole) (Peeked peek.tick (record { line = peek.line; bytes = stand_now known.module_ known.array peek.line })) (Settled peek.tick ∷ []) tt
+          (All-cons (IsTrueLine whole) (Settled peek.tick) [] tt (All-nil (IsTrueLine whole)))
       by (Until until) = All-cons (IsTrueLine whole) (Settled until.reached) [] tt (All-nil (IsTrueLine whole))
+      by (UntilAny until) = All-cons (IsTrueLine whole) (Settled until.reached) [] tt (All-nil (IsTrueLine whole))
 
   pub in-turn : TellsInTurn raw seed row before (outcome_in results) outcome
   in-turn = record {

@@ -8,7 +8,7 @@ use Rattle.bank_timing.specs.Extending.{outcome_in}
 use Rattle.module_shape.specs.{Limits.IsShape, declared.raw.RawShape.RawShape}
 use Rattle.pcm_module.specs.State.{ModuleState}
 use Rattle.row_printer.specs.{Printing.table_of, declared.told.Mark.TheVariants.{Exhausted, Going, Halted}, declared.told.Told.Told}
-use Rattle.row_printer.specs.declared.told.Told.TheVariants.{Became, Bank, Looked, Settled}
+use Rattle.row_printer.specs.declared.told.Told.TheVariants.{Became, Bank, Looked, Peeked, Settled}
 use Rattle.trace_stream.specs.{Asked.events_in, declared.asked.Asked.Asked}
 use Rattle.row_stream.specs.{Ending.HasEnded, Serving.{HasServed, TellsAlong, lines_of}}
 use Rattle.settle_laws.specs.Turns.{is_in_bank}
@@ -23,6 +23,7 @@ IsTrueMark raw seed whole by_then in_the_end rows (Bank tick backlog) =
     × (backlog.mark ≡ Halted → (number : ℕ) → rows < number → IsTrue (is_in_bank raw seed whole backlog.bank number) → IsFalse (is_worn (in_the_end number)))
 IsTrueMark raw seed whole by_then in_the_end rows (Became row outcome) = Unit {0}
 IsTrueMark raw seed whole by_then in_the_end rows (Looked tick wear) = Unit {0}
+IsTrueMark raw seed whole by_then in_the_end rows (Peeked tick newest) = Unit {0}
 IsTrueMark raw seed whole by_then in_the_end rows (Settled tick) = Unit {0}
 
 -- so it is of each line that answered one of these rows, which were told so

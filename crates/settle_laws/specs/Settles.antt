@@ -7,8 +7,8 @@ use Rattle.bank_model.specs.Timing.{TimedEvent}
 use Rattle.bank_timing.specs.Extending.{outcome_in}
 use Rattle.module_shape.specs.{Limits.IsShape, declared.raw.RawShape.RawShape}
 use Rattle.pcm_module.specs.State.{ModuleState}
-use Rattle.row_printer.specs.{Printing.table_of, declared.told.Told.Told, declared.told.Told.TheVariants.{Became, Bank, Looked, Settled}}
-use Rattle.trace_stream.specs.{Asked.events_in, declared.asked.Asked.Asked, declared.asked.Asked.TheVariants.{Happens, Settle, Query, Look, Until}}
+use Rattle.row_printer.specs.{Printing.table_of, declared.told.Told.Told, declared.told.Told.TheVariants.{Became, Bank, Looked, Peeked, Settled}}
+use Rattle.trace_stream.specs.{Asked.events_in, declared.asked.Asked.Asked, declared.asked.Asked.TheVariants.{Happens, Settle, Query, Look, Peek, Until, UntilAny}}
 use Rattle.row_stream.specs.{Ending.HasEnded, Serving.{HasServed, TellsAlong}}
 
 module _ {n : ℕ} where
@@ -18,7 +18,9 @@ module _ {n : ℕ} where
   settled_at (Settle tick) = Some tick
   settled_at (Query tick) = Some tick
   settled_at (Look tick) = Some tick
+  settled_at (Peek peek) = Some peek.tick
   settled_at (Until until) = Some until.reached
+  settled_at (UntilAny until) = Some until.reached
 
   -- how many of these rows settle
   abbrev pub settles_in : List (Asked n) → ℕ
@@ -27,7 +29,9 @@ module _ {n : ℕ} where
   settles_in (Settle tick ∷ before) = suc (settles_in before)
   settles_in (Query tick ∷ before) = suc (settles_in before)
   settles_in (Look tick ∷ before) = suc (settles_in before)
+  settles_in (Peek peek ∷ before) = suc (settles_in before)
   settles_in (Until until ∷ before) = suc (settles_in before)
+  settles_in (UntilAny until ∷ before) = suc (settles_in before)
 
   -- the first lines that were told, up to those of so many settles: each answer to a row that settles ends with one
   abbrev pub told_up_to : ℕ → List (Told n) → List (Told n)
@@ -36,6 +40,7 @@ module _ {n : ℕ} where
   told_up_to (suc settles) (Became row outcome ∷ told) = Became row outcome ∷ told_up_to (suc settles) told
   told_up_to (suc settles) (Bank tick backlog ∷ told) = Bank tick backlog ∷ told_up_to (suc settles) told
   told_up_to (suc settles) (Looked tick wear ∷ told) = Looked tick wear ∷ told_up_to (suc settles) told
+  told_up_to (suc settles) (Peeked tick newest ∷ told) = Peeked tick newest ∷ told_up_to (suc settles) told
   told_up_to (suc settles) (Settled tick ∷ told) = Settled tick ∷ told_up_to settles told
 
   -- what was known of each row behind one that settles, by the lines that were told up to its own

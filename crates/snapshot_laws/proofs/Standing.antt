@@ -16,7 +16,7 @@ use Rattle.module_laws.specs.Asking.{Asked as AskedRow}
 use Rattle.pcm_module.specs.{Asking.asked_for, Replaying.{Replays, ReplaysIn}, Roles.{spares_used, spares_used_in}, State.{AreEndsOf, ModuleState, bank_at, first_bank}}
 use Rattle.run_text.specs.{Counting.counts_of, Pulses.{pulses_in_all, pulses_of_first}, declared.counts.Counts.Counts}
 use Rattle.row_printer.specs.{Printing.table_of, Telling.{outcomes_in, recorded, TellsOnce}, declared.snapshot.Snapshot.Snapshot, declared.told.ArrayWear.ArrayWear}
-use Rattle.row_printer.specs.{declared.told.Told.Told, declared.told.Told.TheVariants.{Became, Bank, Looked, Settled}}
+use Rattle.row_printer.specs.{declared.told.Told.Told, declared.told.Told.TheVariants.{Became, Bank, Looked, Peeked, Settled}}
 use Rattle.wear_totals.specs.Wear.{mean_of, wear_of}
 use Rattle.row_stream.specs.{Looking.IsSnapshot, Serving.HasServed}
 use Rattle.snapshot_laws.{specs.Rising.{CountsRise, Rises}, proofs.Histories.{given_in, given-on, mean-on, most-on, pulses-on, sum-on, u64-on}}
@@ -128,6 +128,7 @@ module _ {n : ℕ} where
   outcomes-both (Became row outcome ∷ xs) ys = ap (λ (rest : List (ℕ × Outcome n)). (row, outcome) ∷ rest) (outcomes-both xs ys)
   outcomes-both (Bank tick backlog ∷ xs) ys = outcomes-both xs ys
   outcomes-both (Looked tick wear ∷ xs) ys = outcomes-both xs ys
+  outcomes-both (Peeked tick newest ∷ xs) ys = outcomes-both xs ys
   outcomes-both (Settled tick ∷ xs) ys = outcomes-both xs ys
 
   -- what was told first is told once

@@ -104,8 +104,8 @@ module _ {S : Type 0} (laws : StreamLaws S) (n m e : ℕ) (job : StreamJob) (sou
           snapshots = served.snapshots;
           snaps = (
             served.snaps.0,
-            snaps-by-rows e job.shape job.seed laws.moment served.lawful.shape (shown_by job.shape job.print) asked served.ended.history served.ended.said served.ended.along served.snaps.0 served.snaps.1,
-            adds (takes_snapshots (shown_by job.shape job.print)) (IsSnapshot served.places tick told served.module_ served.before)
+            snaps-by-rows e job.shape job.seed laws.moment served.lawful.shape (shown_by job.shape job.seed job.print) asked served.ended.history served.ended.said served.ended.along served.snaps.0 served.snaps.1,
+            adds (takes_snapshots (shown_by job.shape job.seed job.print)) (IsSnapshot served.places tick told served.module_ served.before)
                 (EndsRows n m e job source served.places tick told served.ended.ends served.before) served.snaps.0 served.snapshots
                 (λ one is. record {
                   counts = counts-rows served.places tick told served.module_ served.before one is;
@@ -117,7 +117,7 @@ module _ {S : Type 0} (laws : StreamLaws S) (n m e : ℕ) (job : StreamJob) (sou
                 }) served.snaps.2,
           );
           rise =
-              laws.ended_rises n m e job.shape job.seed (stays_off (is_off job.end) served.asked) asked served.module_ served.before served.places told (shown_by job.shape job.print) served.snapshots
+              laws.ended_rises n m e job.shape job.seed (stays_off (is_off job.end) served.asked) asked served.module_ served.before served.places told (shown_by job.shape job.seed job.print) served.snapshots
               served.once (served.ended, served.snaps);
           untouched = served.untouched;
           wear = served.wear;
@@ -141,11 +141,11 @@ module _ {S : Type 0} (laws : StreamLaws S) (n m e : ℕ) (job : StreamJob) (sou
               (laws.marks n m e job.shape job.seed asked served.history served.module_ array told served.lawful.shape served.along served.left);
           looks = looks-at e job.shape job.seed laws.moment served.lawful.shape served.module_ array asked served.history told served.along served.now;
           snapshots = served.snapshots;
-          snaps = snaps-by-rows e job.shape job.seed laws.moment served.lawful.shape (shown_by job.shape job.print) asked served.history told served.along served.snapshots served.snaps;
+          snaps = snaps-by-rows e job.shape job.seed laws.moment served.lawful.shape (shown_by job.shape job.seed job.print) asked served.history told served.along served.snapshots served.snaps;
           shows =
-              shows-at e job.shape job.seed laws.moment served.lawful.shape served.module_ array (shown_by job.shape job.print) asked served.history told served.along served.snapshots served.snaps served.now;
+              shows-at e job.shape job.seed laws.moment served.lawful.shape served.module_ array (shown_by job.shape job.seed job.print) asked served.history told served.along served.snapshots served.snaps served.now;
           rise =
-              laws.so_far_rises n m e job.shape job.seed (length (events_in asked)) (shown_by job.shape job.print) asked served.history told served.along served.snapshots served.once served.snaps;
+              laws.so_far_rises n m e job.shape job.seed (length (events_in asked)) (shown_by job.shape job.seed job.print) asked served.history told served.along served.snapshots served.once served.snaps;
           served = kept.reads;
           size = subst (λ (raw : RawShape). array.lines ≡ raw.banks * array_lines_of (module_of raw)) served.left.shape served.left.replays.size;
           ends = ends_of served.history (bank_at served.module_);
@@ -265,7 +265,7 @@ module _ {S K : Type 0} (moment : MomentLaw) (source : LentSource S) (received :
         let telling = it.telling in (
           rows-of e job.shape job.seed moment is.0.shape asked telling,
           it.snapshots,
-          snaps-by-rows e job.shape job.seed moment is.0.shape (shown_by job.shape job.print) asked telling.history telling.told telling.along it.snapshots it.snaps,
+          snaps-by-rows e job.shape job.seed moment is.0.shape (shown_by job.shape job.seed job.print) asked telling.history telling.told telling.along it.snapshots it.snaps,
           it.is,
         )) waits.0 source.now waits.1,
   )

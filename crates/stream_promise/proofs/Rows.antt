@@ -8,8 +8,8 @@ use Rattle.module_shape.specs.{Limits.IsShape, declared.raw.RawShape.RawShape}
 use Rattle.right_runs.specs.Tables.{table_in}
 use Rattle.pcm_module.specs.State.{ModuleState, bank_at}
 use Rattle.row_printer.specs.{Printing.table_of, Snapshots.AddsDue, Telling.became, declared.snapshot.Snapshot.Snapshot, declared.told.Shown.Shown, declared.told.Told.Told}
-use Rattle.row_printer.specs.declared.told.Told.TheVariants.{Looked, Settled}
-use Rattle.trace_stream.specs.{Asked.events_in, declared.asked.Asked.Asked, declared.asked.Asked.TheVariants.{Happens, Settle, Query, Look, Until}}
+use Rattle.row_printer.specs.declared.told.Told.TheVariants.{Looked, Peeked, Settled}
+use Rattle.trace_stream.specs.{Asked.events_in, declared.asked.Asked.Asked, declared.asked.Asked.TheVariants.{Happens, Settle, Query, Look, Peek, Until, UntilAny}}
 use Rattle.row_stream.specs.{Answering.{backlog_of, banks_told}, Asking.{behind_of, cut_if, tick_reached, with_cut}, Ending.{without_cut, without_cut_if}}
 use Rattle.row_stream.specs.{Looking.{IsSnapshot, wear_of}, Refusing.{EndsBehind, MayGoOn, NoneBefore, WentOn}}
 use Rattle.row_stream.specs.{Serving.{AreKnown, IsToldOf, SnapsAlong, Telling, TellsAlong, is_due_behind, lines_of}, declared.stop.Behind.Behind}
@@ -67,7 +67,13 @@ module _ {n m : ℕ} (e : ℕ) (raw : RawShape) (seed : ℕ) (moment : MomentLaw
           subst (λ (r : RawShape). CountsBacklog (table_in r seed bank rows) (backlog_of bank (bank_at known.module_ bank))) known.served.shape
           (subst (λ (k : ℕ). CountsBacklog (table_in known.module_.shape k bank rows) (backlog_of bank (bank_at known.module_ bank))) known.served.seeded (lost.backlogs bank exists))
   answers (Look tick) before h told known = (wear_of e known.array, refl)
+  answers (Peek peek) before h told known =
+      ap (λ (bytes : List ℕ). Peeked peek.tick (record { line = peek.line; bytes = bytes }) ∷ Settled peek.tick ∷ []) (lost.stands peek.line known.settled.1)
+    where
+      lost : LosesNothing known.module_ h (events_in before) known.array (table_of (length (events_in before)) told)
+      lost = moment n m e raw seed (events_in before) h known.module_ known.array (table_of (length (events_in before)) told) shape known.served
   answers (Until until) before h told known = refl
+  answers (UntilAny until) before h told known = refl
 
   -- ---- rows
 
@@ -156,7 +162,9 @@ module _ {n m : ℕ} (e : ℕ) (raw : RawShape) (seed : ℕ) (moment : MomentLaw
   looks-at module_ array (Look tick ∷ before) h told along now =
       let said : List (Told n) = along.1 ++ became along.5 in
       (said, subst (λ (a : ArrayState n m). told ≡ said ++ Looked tick (wear_of e a) ∷ Settled tick ∷ []) now.1 along.8)
+  looks-at module_ array (Peek peek ∷ before) h told along now = tt
   looks-at module_ array (Until until ∷ before) h told along now = tt
+  looks-at module_ array (UntilAny until ∷ before) h told along now = tt
 
   pub shows-at : (module_ : ModuleState n m e) (array : ArrayState n m) (shown : Shown) (asked : List (Asked n)) (h : ℕ → List (TimedEvent n m)) (told : List (Told n)) (along : TellsAlong e raw seed asked h told)
       (snapshots : List Snapshot) → SnapsAlong e raw seed shown asked h told along snapshots → IsToldOf e raw seed module_ array asked h told along → ShowsAt e array shown asked snapshots

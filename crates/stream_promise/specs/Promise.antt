@@ -84,8 +84,8 @@ module _ {S : Type 0} (n m e : ℕ) (job : StreamJob) (source : LentSource S) wh
     pub saves : SavesRunTo (stays_off (is_off job.end) asked) e job.shape job.seed (rows_told n m e job source asked places told) array ends saved
     pub snapshots : List Snapshot
     pub snaps :
-        (first : List Snapshot) × SnapsByRows job.shape job.seed (shown_by job.shape job.print) (with_cut (is_off job.end) asked) along.told along.rows first
-        × AddsDue (takes_snapshots (shown_by job.shape job.print)) (EndsRows places (tick_reached (with_cut (is_off job.end) asked)) told ends before) first snapshots
+        (first : List Snapshot) × SnapsByRows job.shape job.seed (shown_by job.shape job.seed job.print) (with_cut (is_off job.end) asked) along.told along.rows first
+        × AddsDue (takes_snapshots (shown_by job.shape job.seed job.print)) (EndsRows places (tick_reached (with_cut (is_off job.end) asked)) told ends before) first snapshots
     pub rise : NeverFall snapshots
     pub untouched : job.print ≢ Image → array ≡ before
     pub wear : array.wear ≡ Some job.wear
@@ -109,8 +109,8 @@ module _ {S : Type 0} (n m e : ℕ) (job : StreamJob) (source : LentSource S) wh
     pub marks : AreMarksTrueByRows job.shape job.seed asked (outcome_in (table_of (length (events_in asked)) told)) asked told rows
     pub looks : LooksAt e array asked told
     pub snapshots : List Snapshot
-    pub snaps : SnapsByRows job.shape job.seed (shown_by job.shape job.print) asked told rows snapshots
-    pub shows : ShowsAt e array (shown_by job.shape job.print) asked snapshots
+    pub snaps : SnapsByRows job.shape job.seed (shown_by job.shape job.seed job.print) asked told rows snapshots
+    pub shows : ShowsAt e array (shown_by job.shape job.seed job.print) asked snapshots
     pub rise : NeverFall snapshots
     pub served : IsTrue (each_row is_served_so_far (rows_so_far asked told) [])
     pub size : array.lines ≡ job.shape.banks * array_lines_of (module_of job.shape)
@@ -130,7 +130,7 @@ module _ {S : Type 0} (n m e : ℕ) (job : StreamJob) (source : LentSource S) wh
       pub served : IsServedByRows array told
       pub text : List ℕ
       pub closes : ClosesRows array changes told served text
-      pub written : Gets out (stream_text (shown_by job.shape job.print) told served.snapshots ++ text)
+      pub written : Gets out (stream_text (shown_by job.shape job.seed job.print) told served.snapshots ++ text)
       pub sensed : served.sensed ≡ senses_for job.print array.lines
       pub ending :
           done ≡ done_by (stops_at_refusal job.until && is_refusal_told job.shape job.seed served.asked (before_cut job.shape job.seed (is_off job.end) served.asked served.along)) (table_of served.places told)
@@ -142,7 +142,7 @@ module _ {S : Type 0} (n m e : ℕ) (job : StreamJob) (source : LentSource S) wh
       pub served : IsServedInPartByRows array asked told
       pub cause : StopsBy n m e job source job.input fault asked
       pub far : GoesOnTo fault asked (told_by_rows served)
-      pub written : Gets out (stream_text (shown_by job.shape job.print) told served.snapshots)
+      pub written : Gets out (stream_text (shown_by job.shape job.seed job.print) told served.snapshots)
 
     -- it was served to its end, and first bytes of all that were written, for which no more lines were sensed; of an image they are of rows that have the
     -- bytes of a line
@@ -151,7 +151,7 @@ module _ {S : Type 0} (n m e : ℕ) (job : StreamJob) (source : LentSource S) wh
       pub served : IsServedByRows array told
       pub text : List ℕ
       pub closes : ClosesRows array changes told served text
-      pub part : GetsPart out (stream_text (shown_by job.shape job.print) told served.snapshots ++ text)
+      pub part : GetsPart out (stream_text (shown_by job.shape job.seed job.print) told served.snapshots ++ text)
       pub sensed : served.sensed ≤ senses_for job.print array.lines
       pub rows : job.print ≡ Image → WritesRowsOf job.shape array served.saved out.written_before out.written_now
 
@@ -162,7 +162,7 @@ module _ {S : Type 0} (n m e : ℕ) (job : StreamJob) (source : LentSource S) wh
       pub served : IsServedInPartByRows array asked told
       pub cause : StopsBy n m e job source job.input Write asked
       pub far : GoesOnTo Write asked (told_by_rows served)
-      pub part : GetsPart out (stream_text (shown_by job.shape job.print) told served.snapshots)
+      pub part : GetsPart out (stream_text (shown_by job.shape job.seed job.print) told served.snapshots)
 
     -- the output failed, behind the last row or before
     pub record BreaksByRows (array : ArrayState n m) (changes : ℕ → Option (ℕ → ℕ)) : Type 0 where
@@ -219,7 +219,7 @@ module _ {A V S K : Type 0} (call : Call A V S K) where
 abbrev pub LastSnapshotLaw : Type 0 → Type 0
 LastSnapshotLaw S =
     (n m e : ℕ) (job : StreamJob) (source : LentSource S) (array : ArrayState n m) (told : List (Told n)) (served : IsServedByRows n m e job source array told)
-    → takes_snapshots (shown_by job.shape job.print) ≡ true
+    → takes_snapshots (shown_by job.shape job.seed job.print) ≡ true
     → (first : List Snapshot) × (last : Snapshot) × (served.snapshots ≡ first ++ last ∷ [])
     × (summary_text last.rows last.counts last.retired last.wear.pulses
     ≡ summary_text served.places (counts_of (table_of served.places told)) (spares_used job.shape served.ends) (pulses_in_all served.before))

@@ -4,13 +4,13 @@ use Rattle.cell_rows.specs.Device.{ArrayState}
 use Rattle.result_rows.specs.declared.Outcome.{Outcome}
 use Rattle.bank_timing.specs.Extending.{outcome_in}
 use Rattle.module_shape.specs.declared.raw.RawShape.{RawShape}
-use Rattle.row_rules.specs.declared.Row.{Row}
+use Rattle.row_rules.specs.{Rows.newest, declared.Row.Row}
 use Rattle.right_runs.specs.Tables.{table_in}
 use Rattle.run_text.specs.Counting.{counts_of}
 use Rattle.row_printer.specs.{Printing.{stream_text, table_of}, Refusing.any_refused, Snapshots.AddsDue, Telling.became, declared.snapshot.Snapshot.Snapshot}
 use Rattle.row_printer.specs.{declared.told.ArrayWear.ArrayWear, declared.told.Backlog.Backlog, declared.told.Shown.Shown, declared.told.Told.Told}
-use Rattle.row_printer.specs.declared.told.Told.TheVariants.{Bank, Looked, Settled}
-use Rattle.trace_stream.specs.{Asked.events_in, declared.asked.Asked.Asked, declared.asked.Asked.TheVariants.{Happens, Settle, Query, Look, Until}}
+use Rattle.row_printer.specs.declared.told.Told.TheVariants.{Bank, Looked, Peeked, Settled}
+use Rattle.trace_stream.specs.{Asked.events_in, declared.asked.Asked.Asked, declared.asked.Asked.TheVariants.{Happens, Settle, Query, Look, Peek, Until, UntilAny}}
 use Rattle.row_stream.specs.{Asking.{behind_of, cut_if, tick_reached, with_cut}, Looking.wear_of, Reaching.ReachesBy, Serving.{ComeInOrder, is_due_behind}}
 use Rattle.row_stream.specs.{declared.stop.Behind.Behind, declared.stop.Behind.TheVariants.{Nothing, Going, Off}}
 use Rattle.stream_words.specs.declared.job.StreamJob.{StreamJob}
@@ -26,13 +26,16 @@ module _ {n : ℕ} (raw : RawShape) (seed : ℕ) where
       (earlier : List (Told n)) × (backlog : Backlog) × AreOfBanks rows tick bank earlier
       × (backlog.bank ≡ bank) × CountsBacklog (table_in raw seed bank rows) backlog × (lines ≡ earlier ++ Bank tick backlog ∷ [])
 
-  -- the lines that answer a row beside outcomes, where these rows stand behind it: of each that settles the last one is its tick
+  -- the lines that answer a row beside outcomes, where these rows stand behind it: of each that settles the last one is its tick, and what a peek tells are the
+  -- newest bytes of its line, by the writes that were accepted before
   abbrev pub AreAnswers : List (Row n) → Asked n → List (Told n) → Type 0
   AreAnswers rows (Happens event) lines = lines ≡ []
   AreAnswers rows (Settle tick) lines = lines ≡ Settled tick ∷ []
   AreAnswers rows (Query tick) lines = (first : List (Told n)) × AreOfBanks rows tick raw.banks first × (lines ≡ first ++ Settled tick ∷ [])
   AreAnswers rows (Look tick) lines = (wear : ArrayWear) × (lines ≡ Looked tick wear ∷ Settled tick ∷ [])
+  AreAnswers rows (Peek peek) lines = lines ≡ Peeked peek.tick (record { line = peek.line; bytes = newest rows peek.line }) ∷ Settled peek.tick ∷ []
   AreAnswers rows (Until until) lines = lines ≡ Settled until.reached ∷ []
+  AreAnswers rows (UntilAny until) lines = lines ≡ Settled until.reached ∷ []
 
   -- this was told of rows that asked this: of each, in their order, the outcomes that became known as it was served, and its answer; a settle until went on to
   -- the first tick behind which its row has an outcome
@@ -104,8 +107,8 @@ SnapsByRows raw seed shown (row ∷ before) told rows snapshots =
 -- this is the text of what was told of rows that asked this, with the snapshots that were taken of them
 abbrev pub IsTextByRows : (n m e : ℕ) → StreamJob → List (Asked n) → List ℕ → Type 0
 IsTextByRows n m e job asked text =
-    (it : RowsTold job.shape job.seed asked) × (snapshots : List Snapshot) × SnapsByRows job.shape job.seed (shown_by job.shape job.print) asked it.told it.rows snapshots
-    × (text ≡ stream_text (shown_by job.shape job.print) it.told snapshots)
+    (it : RowsTold job.shape job.seed asked) × (snapshots : List Snapshot) × SnapsByRows job.shape job.seed (shown_by job.shape job.seed job.print) asked it.told it.rows snapshots
+    × (text ≡ stream_text (shown_by job.shape job.seed job.print) it.told snapshots)
 
 -- behind each row what was told had been told in turn, by what became of the rows in the end
 abbrev pub AreInTurnByRows : {n : ℕ} (raw : RawShape) (seed : ℕ) (asked : List (Asked n)) (told : List (Told n)) → TellsByRows raw seed asked told → (ℕ → Outcome n) → Type 0
@@ -129,7 +132,9 @@ LooksAt e array (Happens event ∷ before) told = Unit {0}
 LooksAt e array (Settle tick ∷ before) told = Unit {0}
 LooksAt e array (Query tick ∷ before) told = Unit {0}
 LooksAt {n} e array (Look tick ∷ before) told = (said : List (Told n)) × (told ≡ said ++ Looked tick (wear_of e array) ∷ Settled tick ∷ [])
+LooksAt e array (Peek peek ∷ before) told = Unit {0}
 LooksAt e array (Until until ∷ before) told = Unit {0}
+LooksAt e array (UntilAny until ∷ before) told = Unit {0}
 
 -- where a snapshot was taken behind the last row, so does that
 abbrev pub ShowsAt : {n m : ℕ} → ℕ → ArrayState n m → Shown → List (Asked n) → List Snapshot → Type 0

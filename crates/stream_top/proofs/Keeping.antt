@@ -71,15 +71,15 @@ some-closing raw seed rows counts ends array cells saved Image is roles size = (
 some-closing raw seed rows counts ends array cells saved (Snapshots every) is roles size = ([], refl)
 
 -- before an image nothing is printed
-nothing-before : {n : ℕ} (raw : RawShape) (print : StreamPrint) (told : List (Told n)) (snaps : List Snapshot) → print ≡ Image → stream_text (shown_by raw print) told snaps ≡ []
-nothing-before raw (Rows tell) told snaps is = absurd (cc is)
-nothing-before raw Summary told snaps is = absurd (cc is)
-nothing-before raw (Wear skip) told snaps is = absurd (cc is)
-nothing-before raw (Lines skip) told snaps is = absurd (cc is)
-nothing-before raw Map told snaps is = absurd (cc is)
-nothing-before raw Energy told snaps is = absurd (cc is)
-nothing-before raw Image told snaps is = refl
-nothing-before raw (Snapshots every) told snaps is = absurd (cc is)
+nothing-before : {n : ℕ} (raw : RawShape) (seed : ℕ) (print : StreamPrint) (told : List (Told n)) (snaps : List Snapshot) → print ≡ Image → stream_text (shown_by raw seed print) told snaps ≡ []
+nothing-before raw seed (Rows tell) told snaps is = absurd (cc is)
+nothing-before raw seed Summary told snaps is = absurd (cc is)
+nothing-before raw seed (Wear skip) told snaps is = absurd (cc is)
+nothing-before raw seed (Lines skip) told snaps is = absurd (cc is)
+nothing-before raw seed Map told snaps is = absurd (cc is)
+nothing-before raw seed Energy told snaps is = absurd (cc is)
+nothing-before raw seed Image told snaps is = refl
+nothing-before raw seed (Snapshots every) told snaps is = absurd (cc is)
 
 -- first bytes of an image are so where nothing was written before them
 rows-behind : {n m : ℕ} (small : Bool) (array : ArrayState n m) (saved : Saved n m) (before mid now : Option (List ℕ)) → Appends before mid [] → WritesRowsBy small array saved mid now → WritesRowsBy small array saved before now
@@ -107,7 +107,7 @@ no-rows false array saved before now part = record {
   part = AppendsPrefix-longer before now [] (large_to 0 saved) part;
 }
 
-module _ {S : Type 0} (n m e : ℕ) (job : StreamJob) (source : LentSource S) (module_ : ModuleState n m e) (before : ArrayState n m) (places : ℕ) (told : List (Told n)) (prints : Shown) (snaps : List Snapshot) (alike : prints ≡ shown_by job.shape job.print)
+module _ {S : Type 0} (n m e : ℕ) (job : StreamJob) (source : LentSource S) (module_ : ModuleState n m e) (before : ArrayState n m) (places : ℕ) (told : List (Told n)) (prints : Shown) (snaps : List Snapshot) (alike : prints ≡ shown_by job.shape job.seed job.print)
     (once : TellsOnce places (outcomes_in told)) (lawful : IsStreamJob job) where
   part-of : before.wear ≡ Some job.wear → (asked : List (Asked n)) → IsServing job.shape job.seed asked module_ before places told prints snaps → IsServedInPart n m e job source before asked told
   part-of wear asked serving = record {
@@ -183,13 +183,13 @@ module _ {S : Type 0} (n m e : ℕ) (job : StreamJob) (source : LentSource S) (m
     unfolding served-of
     stream-whole out mid gets rows counts same counted writes all done is =
         let text = closes-of rows counts same counted (λ whole. Appends mid out.written_now whole) writes in
-        let first : Appends out.written_before mid (stream_text (shown_by job.shape job.print) told snaps) = subst (λ (p : Shown). Appends out.written_before mid (stream_text p told snaps)) alike gets in
+        let first : Appends out.written_before mid (stream_text (shown_by job.shape job.seed job.print) told snaps) = subst (λ (p : Shown). Appends out.written_before mid (stream_text p told snaps)) alike gets in
         record {
           told = told;
           served = served-of;
           text = text.0;
           closes = text.1;
-          written = Appends-Appends out.written_before mid out.written_now (stream_text (shown_by job.shape job.print) told snaps) text.0 first text.2;
+          written = Appends-Appends out.written_before mid out.written_now (stream_text (shown_by job.shape job.seed job.print) told snaps) text.0 first text.2;
           sensed = all ∙ ap (senses_for job.print) (sym since.since.lines);
           ending = is;
         }
@@ -203,19 +203,19 @@ module _ {S : Type 0} (n m e : ℕ) (job : StreamJob) (source : LentSource S) (m
     unfolding served-of
     stream-part out mid gets rows counts same counted writes some image fails =
         let text = closes-of rows counts same counted (λ whole. AppendsPrefix mid out.written_now whole) writes in
-        let first : Appends out.written_before mid (stream_text (shown_by job.shape job.print) told snaps) = subst (λ (p : Shown). Appends out.written_before mid (stream_text p told snaps)) alike gets in
+        let first : Appends out.written_before mid (stream_text (shown_by job.shape job.seed job.print) told snaps) = subst (λ (p : Shown). Appends out.written_before mid (stream_text p told snaps)) alike gets in
         record {
           served = inl (record {
             told = told;
             served = served-of;
             text = text.0;
             closes = text.1;
-            part = Appends-AppendsPrefix out.written_before mid out.written_now (stream_text (shown_by job.shape job.print) told snaps) text.0 first text.2;
+            part = Appends-AppendsPrefix out.written_before mid out.written_now (stream_text (shown_by job.shape job.seed job.print) told snaps) text.0 first text.2;
             sensed = subst (λ (lines : ℕ). sensed ≤ senses_for job.print lines) (sym since.since.lines) some;
             rows =
                 λ is.
                 let had = image is in
-                let none : Appends out.written_before mid [] = subst (Appends out.written_before mid) (nothing-before job.shape job.print told snaps is) first in
+                let none : Appends out.written_before mid [] = subst (Appends out.written_before mid) (nothing-before job.shape job.seed job.print told snaps is) first in
                 let Of : RawShape → ℕ → Type 0 = λ raw seed. WritesRowsOf raw array (saved_of raw seed (kept_in module_) before) out.written_before out.written_now in
                 let own : Of module_.shape module_.seed = rows-behind (is_small module_.shape) array (saved_of module_.shape module_.seed (kept_in module_) before) out.written_before mid out.written_now none had in
                 subst (λ (seed : ℕ). Of job.shape seed) played.0.0.seeded (subst (λ (raw : RawShape). Of raw module_.seed) played.0.0.shape own);
@@ -229,7 +229,7 @@ module _ {S : Type 0} (n m e : ℕ) (job : StreamJob) (source : LentSource S) (m
     unfolding served-of
     stream-unclosed out gets none fails =
         let text = some-closing job.shape job.seed places (counts_of (table_of places told)) played.0.0.ends array (cells_at e array changes_now) (saved_of job.shape job.seed (kept_in module_) before) job.print shape kept.1 kept.0.right.size in
-        let first : AppendsPrefix out.written_before out.written_now (stream_text (shown_by job.shape job.print) told snaps) = subst (λ (p : Shown). AppendsPrefix out.written_before out.written_now (stream_text p told snaps)) alike gets in
+        let first : AppendsPrefix out.written_before out.written_now (stream_text (shown_by job.shape job.seed job.print) told snaps) = subst (λ (p : Shown). AppendsPrefix out.written_before out.written_now (stream_text p told snaps)) alike gets in
         let saved = saved_of job.shape job.seed (kept_in module_) before in
         record {
           served = inl (record {
@@ -237,9 +237,9 @@ module _ {S : Type 0} (n m e : ℕ) (job : StreamJob) (source : LentSource S) (m
             served = served-of;
             text = text.0;
             closes = text.1;
-            part = AppendsPrefix-longer out.written_before out.written_now (stream_text (shown_by job.shape job.print) told snaps) text.0 first;
+            part = AppendsPrefix-longer out.written_before out.written_now (stream_text (shown_by job.shape job.seed job.print) told snaps) text.0 first;
             sensed = rw none (omega arith);
-            rows = λ is. no-rows (is_small job.shape) array saved out.written_before out.written_now (subst (AppendsPrefix out.written_before out.written_now) (nothing-before job.shape job.print told snaps is) first);
+            rows = λ is. no-rows (is_small job.shape) array saved out.written_before out.written_now (subst (AppendsPrefix out.written_before out.written_now) (nothing-before job.shape job.seed job.print told snaps is) first);
           });
           fails = fails;
         }

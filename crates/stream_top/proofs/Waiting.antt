@@ -22,7 +22,7 @@ tells-so lines left taken faults first received before P Q so (suc times) source
     )
 
 -- what a printer shows is what the job asks
-pub waits-shown : {S K : Type 0} (n m e : ℕ) (job : StreamJob) (source : LentSource S) (received : K → Option (List ℕ)) (before : Option (List ℕ)) (shown : Shown) → IsStreamJob job → shown ≡ shown_by job.shape job.print
+pub waits-shown : {S K : Type 0} (n m e : ℕ) (job : StreamJob) (source : LentSource S) (received : K → Option (List ℕ)) (before : Option (List ℕ)) (shown : Shown) → IsStreamJob job → shown ≡ shown_by job.shape job.seed job.print
     → (times : ℕ) × TellsFirst (total_of job.shape) source.left source.taken source.faults source.before received before (IsTextOf n m e job.shape job.seed shown) times source.now
     → WaitsOn IsJobText source received before n m e job
 waits-shown n m e job source received before shown lawful same waits = (

@@ -12,11 +12,11 @@ use Rattle.module_prints.specs.WearReports.{cells_at}
 use Rattle.program_calls.specs.Calls.{Gets, GetsPart, IsUntouched, Lent, SinkChange, SinkFails}
 use Rattle.run_text.specs.{Counting.counts_of, Shortfall.any_short}
 use Rattle.row_printer.specs.{Printing.{stream_text, table_of}, Telling.{outcomes_in, TellsOnce}, declared.snapshot.Snapshot.Snapshot, declared.told.Shown.Shown}
-use Rattle.row_printer.specs.{declared.told.Told.Told, declared.told.ToldShape.ToldShape}
+use Rattle.row_printer.specs.{declared.told.Told.Told, declared.told.ToldRest.ToldRest, declared.told.ToldShape.ToldShape}
 use Rattle.row_printer.specs.declared.told.Shown.TheVariants as shown
 use Rattle.stream_words.specs.{Jobs.IsStreamJob, declared.job.End.End, declared.job.End.TheVariants.{Drain, Off}, declared.job.StreamJob.StreamJob}
 use Rattle.stream_words.specs.{declared.job.StreamPrint.StreamPrint, declared.job.StreamPrint.TheVariants.{Rows, Summary, Wear, Lines, Map, Energy, Image, Snapshots}}
-use Rattle.stream_words.specs.{declared.job.Tell.Tell, declared.job.Tell.TheVariants.{Nothing, Shape}, declared.job.Until.Until}
+use Rattle.stream_words.specs.{declared.job.Tell.Tell, declared.job.Tell.TheVariants.{Nothing, Shape, Module}, declared.job.Until.Until}
 use Rattle.stream_words.specs.declared.job.Until.TheVariants as up_to
 use Rattle.drawn_parts.specs.Parts.{drawn_for}
 use Rattle.trace_gen.specs.Generated.{generated}
@@ -43,22 +43,38 @@ abbrev pub stops_at_refusal : Until → Bool
 stops_at_refusal up_to.End = false
 stops_at_refusal up_to.Refused = true
 
--- the shape of a module of these sizes, where it is told
-abbrev pub shape_told : RawShape → Tell → Option ToldShape
-shape_told raw Nothing = None
-shape_told raw Shape =
-    Some (record { banks = raw.banks; regions = raw.regions; lines = raw.lines; spares = raw.spares; writes = raw.writes; reads = raw.reads })
+-- what the words of a module say besides its shape
+abbrev pub rest_told : RawShape → ℕ → ToldRest
+rest_told raw seed = record {
+  seed = seed;
+  psi = raw.psi;
+  read_ticks = raw.read_ticks;
+  iter_ticks = raw.iter_ticks;
+  policy = raw.policy;
+  home = raw.home;
+}
 
--- what is printed as rows are served, on a module of these sizes
-abbrev pub shown_by : RawShape → StreamPrint → Shown
-shown_by raw (Rows tell) = shown.Rows (shape_told raw tell)
-shown_by raw Summary = shown.Nothing
-shown_by raw (Wear skip) = shown.Nothing
-shown_by raw (Lines skip) = shown.Nothing
-shown_by raw Map = shown.Nothing
-shown_by raw Energy = shown.Nothing
-shown_by raw Image = shown.Nothing
-shown_by raw (Snapshots every) = shown.Snapshots every
+-- the shape of a module of these sizes, with this besides
+abbrev pub shape_with : RawShape → Option ToldRest → ToldShape
+shape_with raw rest =
+    record { banks = raw.banks; regions = raw.regions; lines = raw.lines; spares = raw.spares; writes = raw.writes; reads = raw.reads; rest = rest }
+
+-- what is told of a module of these sizes and this seed
+abbrev pub shape_told : RawShape → ℕ → Tell → Option ToldShape
+shape_told raw seed Nothing = None
+shape_told raw seed Shape = Some (shape_with raw None)
+shape_told raw seed Module = Some (shape_with raw (Some (rest_told raw seed)))
+
+-- what is printed as rows are served, on a module of these sizes and this seed
+abbrev pub shown_by : RawShape → ℕ → StreamPrint → Shown
+shown_by raw seed (Rows tell) = shown.Rows (shape_told raw seed tell)
+shown_by raw seed Summary = shown.Nothing
+shown_by raw seed (Wear skip) = shown.Nothing
+shown_by raw seed (Lines skip) = shown.Nothing
+shown_by raw seed Map = shown.Nothing
+shown_by raw seed Energy = shown.Nothing
+shown_by raw seed Image = shown.Nothing
+shown_by raw seed (Snapshots every) = shown.Snapshots every
 
 -- the fault of the program that a stop of a stream is
 abbrev pub stop_fault : Stop → Fault
@@ -153,7 +169,7 @@ module _ {S : Type 0} (n m e : ℕ) (job : StreamJob) (source : LentSource S) wh
     pub ended : HasEnded job.shape job.seed (stays_off (is_off job.end) asked) (with_cut (is_off job.end) asked) module_ before places told
     pub come : ComeFrom job.input asked (told_of_rows asked ended)
     pub snapshots : List Snapshot
-    pub snaps : SnapsAll (shown_by job.shape job.print) ended snapshots
+    pub snaps : SnapsAll (shown_by job.shape job.seed job.print) ended snapshots
     pub once : TellsOnce places (outcomes_in told)
     pub each : TellsEach places told
     pub sensed : ℕ
@@ -179,7 +195,7 @@ module _ {S : Type 0} (n m e : ℕ) (job : StreamJob) (source : LentSource S) wh
     pub now : IsToldOf e job.shape job.seed module_ array asked history told along
     pub wear : array.wear ≡ Some job.wear
     pub snapshots : List Snapshot
-    pub snaps : SnapsAlong e job.shape job.seed (shown_by job.shape job.print) asked history told along snapshots
+    pub snaps : SnapsAlong e job.shape job.seed (shown_by job.shape job.seed job.print) asked history told along snapshots
     pub once : TellsOnce (length (events_in asked)) (outcomes_in told)
 
   -- what was told of them, with its histories
@@ -195,7 +211,7 @@ module _ {S : Type 0} (n m e : ℕ) (job : StreamJob) (source : LentSource S) wh
       pub served : IsServed array told
       pub text : List ℕ
       pub closes : Closes array changes told served text
-      pub written : Gets out (stream_text (shown_by job.shape job.print) told served.snapshots ++ text)
+      pub written : Gets out (stream_text (shown_by job.shape job.seed job.print) told served.snapshots ++ text)
       pub sensed : served.sensed ≡ senses_for job.print array.lines
       pub ending : done ≡ done_by (has_stopped served.asked (told_of_rows served.asked served.ended)) (table_of served.places told)
 
@@ -206,7 +222,7 @@ module _ {S : Type 0} (n m e : ℕ) (job : StreamJob) (source : LentSource S) wh
       pub served : IsServedInPart array asked told
       pub cause : StopsBy job.input fault asked
       pub far : GoesAsFarAs fault asked (told_in_part served)
-      pub written : Gets out (stream_text (shown_by job.shape job.print) told served.snapshots)
+      pub written : Gets out (stream_text (shown_by job.shape job.seed job.print) told served.snapshots)
 
     -- it was served to its end, and first bytes of all that were written, for which no more lines were sensed; of an image they are of rows that have the
     -- bytes of a line
@@ -215,7 +231,7 @@ module _ {S : Type 0} (n m e : ℕ) (job : StreamJob) (source : LentSource S) wh
       pub served : IsServed array told
       pub text : List ℕ
       pub closes : Closes array changes told served text
-      pub part : GetsPart out (stream_text (shown_by job.shape job.print) told served.snapshots ++ text)
+      pub part : GetsPart out (stream_text (shown_by job.shape job.seed job.print) told served.snapshots ++ text)
       pub sensed : served.sensed ≤ senses_for job.print array.lines
       pub rows : job.print ≡ Image → WritesRowsOf job.shape array served.saved out.written_before out.written_now
 
@@ -226,7 +242,7 @@ module _ {S : Type 0} (n m e : ℕ) (job : StreamJob) (source : LentSource S) wh
       pub served : IsServedInPart array asked told
       pub cause : StopsBy job.input Write asked
       pub far : GoesAsFarAs Write asked (told_in_part served)
-      pub part : GetsPart out (stream_text (shown_by job.shape job.print) told served.snapshots)
+      pub part : GetsPart out (stream_text (shown_by job.shape job.seed job.print) told served.snapshots)
 
     -- the output failed, behind the last row or before
     pub record BreaksOff (array : ArrayState n m) (changes : ℕ → Option (ℕ → ℕ)) : Type 0 where

@@ -9,7 +9,7 @@ use Rattle.stream_top.specs.{Calls.LentSource, Streams.shown_by}
 
 -- a job's numbers are in range, and this is the text of what was told of rows that asked this
 abbrev pub IsJobText : (n m e : ℕ) → StreamJob → List (Asked n) → List ℕ → Type 0
-IsJobText n m e job asked text = IsStreamJob job × IsTextOf n m e job.shape job.seed (shown_by job.shape job.print) asked text
+IsJobText n m e job asked text = IsStreamJob job × IsTextOf n m e job.shape job.seed (shown_by job.shape job.seed job.print) asked text
 
 -- of texts of a job's rows, of its source, and of a sink, which had received this before
 module _ {S K : Type 0} (IsText : (n m e : ℕ) → StreamJob → List (Asked n) → List ℕ → Type 0) (source : LentSource S) (received : K → Option (List ℕ)) (before : Option (List ℕ)) where

@@ -17,7 +17,7 @@ ghost use Rattle.row_printer.specs.Snapshots.{IsShown};
 ghost use Rattle.stream_words.specs.Jobs.{IsStreamJob};
 ghost use Rattle.stream_words.specs.Options.{IsPrint};
 ghost use Rattle.stream_top.specs.Calls.{source_between};
-ghost use Rattle.stream_top.specs.Streams.{ComeFrom, Ends, GoesAsFarAs, HasPlayed, StopsBy, done_by, has_stopped, is_source, is_off, shape_told, shown_by, stop_fault, stops_at_refusal, told_of_rows};
+ghost use Rattle.stream_top.specs.Streams.{ComeFrom, Ends, GoesAsFarAs, HasPlayed, StopsBy, done_by, has_stopped, is_source, is_off, rest_told, shape_told, shape_with, shown_by, stop_fault, stops_at_refusal, told_of_rows};
 ghost use Rattle.stream_top.specs.Waiting.{IsJobText, WaitsOn};
 
 use crate::closing::print_closing;
@@ -29,7 +29,7 @@ use command_line::Input;
 use module_shape::RawShape;
 use pcm_io::{Sink, Source};
 use pcm_module::Module;
-use row_printer::{RowPrinter, Shown, ToldShape};
+use row_printer::{RowPrinter, Shown, ToldRest, ToldShape};
 use row_stream::{Behind, Stop, each_row_is_told, end, serve_drawn, serve_source};
 use std::alloc::Global;
 use stream_words::{End, StreamJob, StreamPrint, Tell, Until};
@@ -96,30 +96,53 @@ fn done<const B: usize, K: Sink + Drop>(stopped: bool, out: &RowPrinter<B, K>) -
     }
 }
 
-// The shape of a module of these sizes, where it is told.
-fn shape_told(raw: &RawShape, tell: Tell) -> Option<ToldShape>
-    ensures { result ≡ shape_told raw.now tell }
+// What the words of a module say besides its shape.
+fn rest_told(raw: &RawShape, seed: u64) -> ToldRest
+    ensures { result ≡ rest_told raw.now seed }
 {
-    match tell {
-        Tell::Nothing => None,
-        Tell::Shape => Some(ToldShape {
-            banks: raw.banks,
-            regions: raw.regions,
-            lines: raw.lines,
-            spares: raw.spares,
-            writes: raw.writes,
-            reads: raw.reads,
-        }),
+    ToldRest {
+        seed,
+        psi: raw.psi,
+        read_ticks: raw.read_ticks,
+        iter_ticks: raw.iter_ticks,
+        policy: raw.policy,
+        home: raw.home,
     }
 }
 
-// What is printed as rows are served, on a module of these sizes.
-fn shown_of(raw: &RawShape, print: StreamPrint) -> Shown
-    ensures is { result ≡ shown_by raw.now print }
+// The shape of a module of these sizes, with this besides.
+fn shape_with(raw: &RawShape, rest: Option<ToldRest>) -> ToldShape
+    ensures { result ≡ shape_with raw.now rest }
+{
+    ToldShape {
+        banks: raw.banks,
+        regions: raw.regions,
+        lines: raw.lines,
+        spares: raw.spares,
+        writes: raw.writes,
+        reads: raw.reads,
+        rest,
+    }
+}
+
+// What is told of a module of these sizes and this seed.
+fn shape_told(raw: &RawShape, seed: u64, tell: Tell) -> Option<ToldShape>
+    ensures { result ≡ shape_told raw.now seed tell }
+{
+    match tell {
+        Tell::Nothing => None,
+        Tell::Shape => Some(shape_with(raw, None)),
+        Tell::Module => Some(shape_with(raw, Some(rest_told(raw, seed)))),
+    }
+}
+
+// What is printed as rows are served, on a module of these sizes and this seed.
+fn shown_of(raw: &RawShape, seed: u64, print: StreamPrint) -> Shown
+    ensures is { result ≡ shown_by raw.now seed print }
     ensures lawful { IsPrint print → IsShown result }
 {
     match print {
-        StreamPrint::Rows(tell) => Shown::Rows(shape_told(raw, tell)),
+        StreamPrint::Rows(tell) => Shown::Rows(shape_told(raw, seed, tell)),
         StreamPrint::Summary => Shown::Nothing,
         StreamPrint::Wear(_) => Shown::Nothing,
         StreamPrint::Lines(_) => Shown::Nothing,
@@ -305,7 +328,7 @@ pub fn stream<
         Ok(taken) => taken,
         Err(_) => return (Err(Fault::NoMemory), out),
     };
-    let shown = shown_of(job.shape.raw(), job.print);
+    let shown = shown_of(job.shape.raw(), job.seed, job.print);
     let mut printer = RowPrinter::<B, K>::new(out, text, shown);
     let done = match play(alloc, job, &mut pcm, array, source, &mut printer) {
         Ok(done) => done,

@@ -23,7 +23,11 @@ closing_of text =
 
 -- what is told in front of rows
 abbrev pub tell_of : Option Text → Option Tell
-tell_of text = one_of_two (codes "nothing") tell.Nothing (codes "shape") tell.Shape text
+tell_of None = Some tell.Nothing
+tell_of (Some text) =
+    if bytes_eq text (codes "nothing") then Some tell.Nothing
+    else (if bytes_eq text (codes "shape") then Some tell.Shape
+    else (if bytes_eq text (codes "module") then Some tell.Module else None))
 
 -- rows, and what is told in front of them
 abbrev pub told_rows : Option Text → Option StreamPrint

@@ -58,6 +58,8 @@ pub enum Tell {
     Nothing,
     /// Its shape.
     Shape,
+    /// All that the words say of it, but for how its cells wear.
+    Module,
 }
 
 /// Which array lines a report leaves out.

@@ -148,6 +148,7 @@ fn tell(matches: &ArgMatches<'_>) -> Option<Tell>
         None => Some(Tell::Nothing),
         Some("nothing") => Some(Tell::Nothing),
         Some("shape") => Some(Tell::Shape),
+        Some("module") => Some(Tell::Module),
         Some(_) => None,
     }
 }

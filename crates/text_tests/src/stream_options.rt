@@ -122,7 +122,7 @@ const LATEST: Mix = Mix {
 };
 
 // Two dashes end the options.
-static ENDS: [(&str, (StreamPrint, Input, End, Until)); 17] = [
+static ENDS: [(&str, (StreamPrint, Input, End, Until)); 18] = [
     ("", (PLAIN, Input::Source, End::Drain, Until::End)),
     (
         "--print image --input drawn --rows 4000000000 --write-percent 100 --cuts 4000000000 --step 274 --hot 3 --end off",
@@ -230,6 +230,15 @@ static ENDS: [(&str, (StreamPrint, Input, End, Until)); 17] = [
         ),
     ),
     (
+        "--print rows --tell=module",
+        (
+            StreamPrint::Rows(Tell::Module),
+            Input::Source,
+            End::Drain,
+            Until::End,
+        ),
+    ),
+    (
         "--tell=nothing --print rows",
         (PLAIN, Input::Source, End::Drain, Until::End),
     ),
@@ -242,7 +251,7 @@ fn a_stream_may_be_long_and_end_without_power(rt: HostRuntime) {
     }
 }
 
-static REFUSED: [&str; 50] = [
+static REFUSED: [&str; 51] = [
     "run",
     "3",
     "--help",
@@ -279,6 +288,7 @@ static REFUSED: [&str; 50] = [
     "--tell",
     "--tell=",
     "--tell sizes",
+    "--tell module --print summary",
     "--tell shape --tell shape",
     "--tell shape --print summary",
     "--print snapshots --tell shape",

@@ -1,16 +1,19 @@
 ghost use Rattle.row_printer.specs.Snapshots.{IsShown};
 
 use crate::expected::{assert_text, compare};
+use bank_shape::{Home, Policy};
 use cell_rows::LineEnergy;
 use pcm_io::{MemSink, MemSource, NeverFailSource, Text};
 use result_rows::{Outcome, Outcomes};
-use row_printer::{ArrayWear, Backlog, Mark, RowPrinter, Shown, Snapshot, ToldShape};
+use row_printer::{
+    ArrayWear, Backlog, Mark, Newest, RowPrinter, Shown, Snapshot, ToldRest, ToldShape,
+};
 use std::alloc::{AllocError, Global};
 use std::process::Abort;
 use std::test::Fail;
 use text_printer::TEXT_ROOM;
 use trace_reader::{Event, EventOp, Kind, TraceFault};
-use trace_stream::{Asked, StreamFault, TraceStream, Until, read_stream};
+use trace_stream::{Asked, Peek, StreamFault, TraceStream, Until, UntilAny, read_stream};
 
 // What a text asks, read from a source whose call with this number fails. The first call gives one byte, and the others
 // all that are left.
@@ -20,7 +23,7 @@ fn read(alloc: Global, text: &[u8], fails: u32) -> Result<Vec<Asked<64>>, Stream
     read_stream(alloc, &mut MemSource::new(bytes, fails), 4)
 }
 
-static ASKED: [Asked<64>; 6] = [
+static ASKED: [Asked<64>; 8] = [
     Asked::Happens(Event {
         tick: 3,
         op: EventOp::Read(1),
@@ -33,6 +36,11 @@ static ASKED: [Asked<64>; 6] = [
         limit: 8,
         reached: 4,
     }),
+    Asked::UntilAny(UntilAny {
+        limit: 9,
+        reached: 4,
+    }),
+    Asked::Peek(Peek { tick: 5, line: 3 }),
     Asked::Happens(Event {
         tick: 5,
         op: EventOp::Cut,
@@ -52,12 +60,13 @@ fn compare_asked(
 
 #[test]
 fn rows_come_in_order(rt: HostRuntime) {
-    let text = b"tick,op,arg,data\n\n3,R,1,\r\n\"3\",S,,\n4,Q,,\n4,L,,\n8,U,01,\n5,C,,";
+    let text =
+        b"tick,op,arg,data\n\n3,R,1,\r\n\"3\",S,,\n4,Q,,\n4,L,,\n8,U,01,\n9,U,,\n5,P,03,\n5,C,,";
     compare_asked(&rt, read(rt.alloc(), text, 9), &ASKED);
 }
 
 // Texts, the call of the source that fails, and the row and the kind of the fault of each.
-static FAULTS: [(&[u8], u32, u32, Kind); 13] = [
+static FAULTS: [(&[u8], u32, u32, Kind); 18] = [
     (b"tick,op,arg,data\n3,Q,,\n3,Q,0,\n", 9, 1, Kind::Line),
     (b"tick,op,arg,data\n3,S,,\n2,S,,\n", 9, 1, Kind::Order),
     (b"tick,op,arg,data\n3,S,0,\n", 9, 1, Kind::Line),
@@ -76,6 +85,11 @@ static FAULTS: [(&[u8], u32, u32, Kind); 13] = [
     (b"tick,op,arg,data\n3,L,,\n2,L,,\n", 9, 1, Kind::Order),
     (b"tick,op,arg,data\n3,L,0,\n", 9, 1, Kind::Line),
     (b"tick,op,arg,data\n3,C,,\n3,L,,0\n", 9, 2, Kind::Payload),
+    (b"tick,op,arg,data\n3,U,,0\n", 9, 1, Kind::Payload),
+    (b"tick,op,arg,data\n3,C,,\n2,U,,\n", 9, 2, Kind::Order),
+    (b"tick,op,arg,data\n3,P,,\n", 9, 1, Kind::Line),
+    (b"tick,op,arg,data\n3,P,4,\n", 9, 1, Kind::Line),
+    (b"tick,op,arg,data\n3,P,3,0\n", 9, 1, Kind::Payload),
 ];
 
 // Which call of the source of a text fails, and the fault of that.
@@ -202,6 +216,16 @@ const SHAPE: ToldShape = ToldShape {
     spares: 1024,
     writes: 256,
     reads: 3,
+    rest: None,
+};
+
+const REST: ToldRest = ToldRest {
+    seed: u64::MAX,
+    psi: 100,
+    read_ticks: 5,
+    iter_ticks: 255,
+    policy: Policy::Cancel,
+    home: Home::Guarded,
 };
 
 // Two rows, a bank, how worn the array is and a tick, told to a printer that prints or only counts: what is written, how many rows were
@@ -218,6 +242,11 @@ fn told(alloc: Global, prints: Shown) -> Result<(Box<MemSink>, (u32, u32, bool))
     out.set(1, Outcome::Stored { tick: 9, place: 3 });
     out.bank(12, EXHAUSTED);
     out.looked(12, WORN);
+    let newest = Newest {
+        line: 67_108_863,
+        bytes: [0x0f; 64],
+    };
+    out.peeked(12, newest);
     out.settled(12);
     let _done = out.flush();
     let counts = out.counts();
@@ -232,7 +261,7 @@ fn a_stream_tells_each_row_once_as_it_comes(rt: HostRuntime) -> Result<(), Fail>
     assert_text(
         &rt,
         sink.written(),
-        b"row,outcome,tick,place,data\n2,busy,5,,\n1,stored,9,3,\n,bank,12,7,256 0 exhausted\n,wear,12,,17 9 0 2 18446744073709551615 70 0\n,settled,12,,\n",
+        b"row,outcome,tick,place,data\n2,busy,5,,\n1,stored,9,3,\n,bank,12,7,256 0 exhausted\n,wear,12,,17 9 0 2 18446744073709551615 70 0\n,bytes,12,67108863,0f0f0f0f0f0f0f0f0f0f0f0f0f0f0f0f0f0f0f0f0f0f0f0f0f0f0f0f0f0f0f0f0f0f0f0f0f0f0f0f0f0f0f0f0f0f0f0f0f0f0f0f0f0f0f0f0f0f0f0f0f0f0f0f\n,settled,12,,\n",
     );
     compare(&rt, counted, (1, 1, true));
     Ok(())
@@ -244,9 +273,21 @@ fn a_shape_stands_behind_the_header(rt: HostRuntime) -> Result<(), Fail> {
     assert_text(
         &rt,
         sink.written(),
-        b"row,outcome,tick,place,data\n,shape,0,1,64 1 1048576 1024 64 256 3\n2,busy,5,,\n1,stored,9,3,\n,bank,12,7,256 0 exhausted\n,wear,12,,17 9 0 2 18446744073709551615 70 0\n,settled,12,,\n",
+        b"row,outcome,tick,place,data\n,shape,0,1,64 1 1048576 1024 64 256 3\n2,busy,5,,\n1,stored,9,3,\n,bank,12,7,256 0 exhausted\n,wear,12,,17 9 0 2 18446744073709551615 70 0\n,bytes,12,67108863,0f0f0f0f0f0f0f0f0f0f0f0f0f0f0f0f0f0f0f0f0f0f0f0f0f0f0f0f0f0f0f0f0f0f0f0f0f0f0f0f0f0f0f0f0f0f0f0f0f0f0f0f0f0f0f0f0f0f0f0f0f0f0f0f\n,settled,12,,\n",
     );
     compare(&rt, counted, (1, 1, true));
+    Ok(())
+}
+
+#[test]
+fn more_of_a_module_stands_behind_its_shape(rt: HostRuntime) -> Result<(), Fail> {
+    let mut whole = SHAPE;
+    whole.rest = Some(REST);
+    let (sink, _counted) = told(rt.alloc(), Shown::Rows(Some(whole)))?;
+    let written = sink.written();
+    let head =
+        b"row,outcome,tick,place,data\n,shape,0,2,64 1 1048576 1024 64 256 3 18446744073709551615 100 5 255 cancel guarded\n2,busy,5,,\n";
+    assert_text(&rt, &written[..head.len().min(written.len())], head);
     Ok(())
 }
 

@@ -6,11 +6,12 @@ use Rattle.trace_reader.specs.{Rows.{event_at, event_of, op_of, text_at, tick_of
 use Rattle.trace_reader.specs.{declared.event.Event.Event, declared.event.EventOp.EventOp, declared.fault.Kind.Kind, declared.fault.TraceFault.TraceFault}
 use Rattle.trace_reader.specs.declared.fault.Kind.TheVariants as kind
 use Rattle.trace_reader.specs.declared.fault.ParseFault.TheVariants as whole
-use Rattle.trace_stream.specs.Asked.{asked_event, asked_of, asked_settle, asked_settling, asked_until, events_in, is_look, is_query, is_settle, is_settle_word, is_until}
-use Rattle.trace_stream.specs.{Asked.{rows_after, settle_of, tick_asked, until_of}, Laws.{BareLaw, FaultBackLaw, all_events, records_of}}
+use Rattle.trace_stream.specs.Asked.{any_of, asked_any, asked_by, asked_event, asked_of, asked_peek, asked_settle, asked_settling, asked_until, events_in, is_any, is_look, is_peek, is_query, is_settle}
+use Rattle.trace_stream.specs.{Asked.{is_settle_word, is_until, peek_of, rows_after, settle_of, settled_of, settling_of, tick_asked, until_of}, Laws.{BareLaw, FaultBackLaw, all_events, records_of}}
 use Rattle.trace_stream.specs.{Stream.{and_then_asked, asked_before, is_past, stream_fault_at, stream_of, stream_records, stream_rows}, declared.asked.Asked.Asked}
-use Rattle.trace_stream.specs.{declared.asked.Asked.TheVariants.{Happens, Settle, Query, Look, Until}, declared.asked.Until.Until as Waited, declared.fault.StreamFault.StreamFault}
-use Rattle.trace_stream.proofs.{Lawful.{settle-lawful, until-lawful}, Traces.{asked-ok, event-four, row_by}}
+use Rattle.trace_stream.specs.{declared.asked.Asked.TheVariants.{Happens, Settle, Query, Look, Peek, Until, UntilAny}, declared.asked.Peek.Peek as Peeked, declared.asked.Until.Until as Waited}
+use Rattle.trace_stream.specs.{declared.asked.UntilAny.UntilAny as Awaited, declared.fault.StreamFault.StreamFault}
+use Rattle.trace_stream.proofs.{Lawful.{any-lawful, peek-rises, settle-lawful, until-lawful}, Traces.{asked-ok, event-four, row_by}}
 use Rattle.trace_stream.specs.declared.fault.StreamFault.TheVariants as fault
 
 -- a row that happens does so behind any earlier tick
@@ -39,7 +40,7 @@ earlier n lines before early fields event less h =
 
 -- what a row asks, by whether it settles
 asked-settles : (n lines rows before : ℕ) (fields : List (List ℕ)) → is_settle fields ≡ true
-    → asked_of n lines rows before fields ≡ asked_settling (is_until fields) (is_query fields) (is_look fields) (until_of rows before fields) (settle_of before fields)
+    → asked_of n lines rows before fields ≡ settling_of lines rows before fields
 unfolding asked_of
 asked-settles n lines rows before fields is = rw is refl
 
@@ -96,6 +97,24 @@ bare-rows n lines rows before early (fields ∷ rest) asked less h =
     settling true q more = waits (until_of rows before fields) refl q more
     settling false q more = settles (is_query fields) (is_look fields) (settle_of before fields) refl q more
 
+    peeks : (r : Result Peeked Kind) → peek_of lines before fields ≡ r → and_then_asked (rows + 1) (asked_peek {n = n} r) (λ asked. stream_rows n lines (rows_after rows asked) (tick_asked asked) rest) ≡ Ok asked → Rest
+        → stream_rows n lines rows early (bare rest) ≡ Ok (all_events (events_in asked))
+    peeks (Err kind) e q more = cc q
+    peeks (Ok peek) e q more = settled (Peek peek) peek.tick (peek-rises lines before peek fields e).0 (λ others. refl) q more
+
+    awaits : (r : Result Awaited Kind) → any_of before fields ≡ r → and_then_asked (rows + 1) (asked_any {n = n} r) (λ asked. stream_rows n lines (rows_after rows asked) (tick_asked asked) rest) ≡ Ok asked → Rest
+        → stream_rows n lines rows early (bare rest) ≡ Ok (all_events (events_in asked))
+    awaits (Err kind) e q more = cc q
+    awaits (Ok until) e q more =
+        let stands = (any-lawful before until fields e).2 in
+        settled (UntilAny until) until.reached (omega (arith, stands)) (λ others. refl) q more
+
+    which : (peek any : Bool) → and_then_asked (rows + 1) (asked_by {n = n} peek any (peek_of lines before fields) (any_of before fields) (settled_of rows before fields)) (λ asked. stream_rows n lines (rows_after rows asked) (tick_asked asked) rest) ≡ Ok asked → Rest
+        → stream_rows n lines rows early (bare rest) ≡ Ok (all_events (events_in asked))
+    which true any q more = peeks (peek_of lines before fields) refl q more
+    which false true q more = awaits (any_of before fields) refl q more
+    which false false q more = settling (is_until fields) q more
+
     happens : (r : Result (Event n) Kind) → event_of n lines before fields ≡ r → and_then_asked (rows + 1) (asked_event r) (λ asked. stream_rows n lines (rows_after rows asked) (tick_asked asked) rest) ≡ Ok asked → Rest
         → and_then_asked (rows + 1) (asked_of n lines rows early fields) (λ asked. stream_rows n lines (rows_after rows asked) (tick_asked asked) (bare rest)) ≡ Ok (all_events (events_in asked))
     happens (Err kind) e q more = cc q
@@ -108,7 +127,7 @@ bare-rows n lines rows before early (fields ∷ rest) asked less h =
         → (if past then Err fault.TooMany else and_then_asked (rows + 1) (asked_of n lines rows before fields) (λ asked. stream_rows n lines (rows_after rows asked) (tick_asked asked) rest)) ≡ Ok asked → Rest
         → stream_rows n lines rows early (cond (not settle) (fields ∷ bare rest) (bare rest)) ≡ Ok (all_events (events_in asked))
     by settle is true e q more = cc q
-    by true is false e q more = settling (is_until fields) (rw (asked-settles n lines rows before fields is) at q) more
+    by true is false e q more = which (is_peek fields) (is_any fields) (rw (asked-settles n lines rows before fields is) at q) more
     by false is false e q more = rw e (happens (event_of n lines before fields) refl (rw (asked-happens n lines rows before fields is) at q) more)
 
 -- the header doesn't settle
@@ -152,7 +171,9 @@ no-fewer rows (Happens event) = omega arith
 no-fewer rows (Settle tick) = omega arith
 no-fewer rows (Query tick) = omega arith
 no-fewer rows (Look tick) = omega arith
+no-fewer rows (Peek peek) = omega arith
 no-fewer rows (Until until) = omega arith
+no-fewer rows (UntilAny until) = omega arith
 
 fault-row : (n lines rows before : ℕ) (records : List (List (List ℕ))) (found : TraceFault) → stream_rows n lines rows before records ≡ Err (fault.Trace found) → rows + 1 ≤ found.row
 unfolding stream_rows

@@ -4,7 +4,7 @@ use Rattle.std.{specs.Prelude.{Result, Ok, Err}, proofs.lemmas.Bool.Decides.nat_
 use Rattle.trace_reader.specs.{Trace.is_header, declared.fault.Kind.Kind}
 use Rattle.trace_stream.specs.{Asked.{asked_of, events_in, is_settle, rows_after, tick_asked}, Laws.{FrontFaultLaw, FrontLaw, StandsBehind, headless, records_of}}
 use Rattle.trace_stream.specs.Stream.{asked_before, front_of, front_records, front_rows, is_past, most_streamed, stream_of, stream_records, stream_rows}
-use Rattle.trace_stream.specs.{declared.asked.Asked.Asked, declared.asked.Asked.TheVariants.{Happens, Settle, Query, Look, Until}, declared.fault.StreamFault.StreamFault}
+use Rattle.trace_stream.specs.{declared.asked.Asked.Asked, declared.asked.Asked.TheVariants.{Happens, Settle, Query, Look, Peek, Until, UntilAny}, declared.fault.StreamFault.StreamFault}
 use Rattle.trace_stream.proofs.Rows.{front-asks, front-faulty, front-past, front-read, front-wrong, header-read, header-wrong, row-asks, row-faulty, row-none, row-past}
 use Rattle.trace_stream.specs.declared.fault.StreamFault.TheVariants as fault
 
@@ -27,7 +27,9 @@ front-before rows asked (Ok all) front is = ap (λ rest. asked ∷ rest) is
 front-before rows (Settle tick) (Err e) front is = is
 front-before rows (Query tick) (Err e) front is = is
 front-before rows (Look tick) (Err e) front is = is
+front-before rows (Peek peek) (Err e) front is = is
 front-before rows (Until until) (Err e) front is = is
+front-before rows (UntilAny until) (Err e) front is = is
 front-before rows (Happens event) (Err e) front is =
     let count : rows + 1 + length (events_in front) ≡ rows + length (events_in (Happens event ∷ front)) = omega arith in
     subst (λ (k : ℕ). StandsBehind k e) count is

@@ -8,8 +8,8 @@ use Rattle.trace_reader.specs.{Rows.{cut_of, event_at, event_of, latest_tick, li
 use Rattle.trace_reader.specs.{declared.event.Event.Event, declared.event.EventOp.EventOp, declared.event.EventOp.TheVariants.{Read, Write, Mask}, declared.fault.Kind.Kind}
 use Rattle.trace_reader.proofs.{Numbers.{line_digits-few, number_of-length}, Pairs.masked_of-length, Table.{bytes_of-odd, bytes_of-other}}
 use Rattle.trace_reader.specs.declared.fault.Kind.TheVariants as kind
-use Rattle.trace_stream.specs.{Asked.{asked_of, from_one, is_look, is_query, is_settle, is_settle_word, is_until, row_of, settle_of, until_of}, Kept.{kept_field, kept_fields}}
-use Rattle.trace_stream.specs.declared.asked.Until.{Until as Waited}
+use Rattle.trace_stream.specs.Asked.{any_of, asked_of, from_one, is_any, is_look, is_peek, is_query, is_settle, is_settle_word, is_until, peek_of, row_of, settle_of, until_of}
+use Rattle.trace_stream.specs.{Kept.{kept_field, kept_fields}, declared.asked.Peek.Peek as Peeked, declared.asked.Until.Until as Waited, declared.asked.UntilAny.UntilAny as Awaited}
 
 -- a field is kept whole, or it is too long
 short-kept : (field : List ℕ) → length field ≤ 257 → kept_field field ≡ field
@@ -229,6 +229,38 @@ until-kept rows before fields =
     ∙ ap (λ (o : Option ℕ). until_by before (tick_of (text_at fields 0)) o (length (text_at (kept_fields fields) 3) == 0)) row
     ∙ ap (until_by before (tick_of (text_at fields 0)) (row_of rows (text_at fields 2))) (empty_at-kept fields 3 (omega arith))
 
+-- one that names no row, by its tests
+abbrev any_by : ℕ → Option ℕ → Bool → Result Awaited Kind
+any_by before tick payload =
+    or_fault tick kind.Tick (λ tick.
+    if nat_lt tick before then Err kind.Order
+    else if not payload then Err kind.Payload
+    else Ok (record { limit = tick; reached = before }))
+
+any-kept : (before : ℕ) (fields : List (List ℕ)) → any_of before (kept_fields fields) ≡ any_of before fields
+unfolding any_of
+any-kept before fields =
+    let tick : tick_of (text_at (kept_fields fields) 0) ≡ tick_of (text_at fields 0) = ap tick_of (text_at-kept fields 0 (omega arith)) ∙ number-kept 13 latest_tick (text_at fields 0) (omega arith) in
+    ap (λ (o : Option ℕ). any_by before o (length (text_at (kept_fields fields) 3) == 0)) tick
+    ∙ ap (any_by before (tick_of (text_at fields 0))) (empty_at-kept fields 3 (omega arith))
+
+-- a peek, by its tests
+abbrev peek_by : ℕ → Option ℕ → Option ℕ → Bool → Result Peeked Kind
+peek_by before tick line payload =
+    or_fault tick kind.Tick (λ tick.
+    if nat_lt tick before then Err kind.Order
+    else or_fault line kind.Line (λ line.
+    if payload then Ok (record { tick = tick; line = line }) else Err kind.Payload))
+
+peek-kept : (lines before : ℕ) (fields : List (List ℕ)) → peek_of lines before (kept_fields fields) ≡ peek_of lines before fields
+unfolding peek_of
+peek-kept lines before fields =
+    let tick : tick_of (text_at (kept_fields fields) 0) ≡ tick_of (text_at fields 0) = ap tick_of (text_at-kept fields 0 (omega arith)) ∙ number-kept 13 latest_tick (text_at fields 0) (omega arith) in
+    let line : line_of lines (text_at (kept_fields fields) 2) ≡ line_of lines (text_at fields 2) = ap (line_of lines) (text_at-kept fields 2 (omega arith)) ∙ line-kept 0 lines (omega arith) (text_at fields 2) in
+    ap (λ (o : Option ℕ). peek_by before o (line_of lines (text_at (kept_fields fields) 2)) (length (text_at (kept_fields fields) 3) == 0)) tick
+    ∙ ap (λ (o : Option ℕ). peek_by before (tick_of (text_at fields 0)) o (length (text_at (kept_fields fields) 3) == 0)) line
+    ∙ ap (peek_by before (tick_of (text_at fields 0)) (line_of lines (text_at fields 2))) (empty_at-kept fields 3 (omega arith))
+
 is_query-kept : (fields : List (List ℕ)) → is_query (kept_fields fields) ≡ is_query fields
 is_query-kept fields = word_at-kept fields 1 (codes "Q") (omega arith) (omega arith)
 
@@ -238,19 +270,39 @@ is_look-kept fields = word_at-kept fields 1 (codes "L") (omega arith) (omega ari
 is_until-kept : (fields : List (List ℕ)) → is_until (kept_fields fields) ≡ is_until fields
 is_until-kept fields = word_at-kept fields 1 (codes "U") (omega arith) (omega arith)
 
+is_any-kept : (fields : List (List ℕ)) → is_any (kept_fields fields) ≡ is_any fields
+is_any-kept fields =
+    ap (λ (b : Bool). b && (length (text_at (kept_fields fields) 2) == 0)) (is_until-kept fields) ∙ ap (λ (b : Bool). is_until fields && b) (empty_at-kept fields 2 (omega arith))
+
+is_peek-kept : (fields : List (List ℕ)) → is_peek (kept_fields fields) ≡ is_peek fields
+is_peek-kept fields = word_at-kept fields 1 (codes "P") (omega arith) (omega arith)
+
 pub is_settle-kept : (fields : List (List ℕ)) → is_settle (kept_fields fields) ≡ is_settle fields
 is_settle-kept fields =
     ap (λ (b : Bool). b && is_settle_word (text_at (kept_fields fields) 1)) (four-kept fields)
-    ∙ ap (λ (b : Bool). (length fields == 4) && (b || is_query (kept_fields fields) || is_look (kept_fields fields) || is_until (kept_fields fields))) (word_at-kept fields 1 (codes "S") (omega arith) (omega arith))
-    ∙ ap (λ (b : Bool). (length fields == 4) && (bytes_eq (text_at fields 1) (codes "S") || b || is_look (kept_fields fields) || is_until (kept_fields fields))) (is_query-kept fields)
-    ∙ ap (λ (b : Bool). (length fields == 4) && (bytes_eq (text_at fields 1) (codes "S") || is_query fields || b || is_until (kept_fields fields))) (is_look-kept fields)
-    ∙ ap (λ (b : Bool). (length fields == 4) && (bytes_eq (text_at fields 1) (codes "S") || is_query fields || is_look fields || b)) (is_until-kept fields)
+    ∙ ap (λ (b : Bool). (length fields == 4) && (b || is_query (kept_fields fields) || is_look (kept_fields fields) || is_until (kept_fields fields) || is_peek (kept_fields fields))) (word_at-kept fields 1 (codes "S") (omega arith) (omega arith))
+    ∙ ap (λ (b : Bool). (length fields == 4) && (bytes_eq (text_at fields 1) (codes "S") || b || is_look (kept_fields fields) || is_until (kept_fields fields) || is_peek (kept_fields fields))) (is_query-kept fields)
+    ∙ ap (λ (b : Bool). (length fields == 4) && (bytes_eq (text_at fields 1) (codes "S") || is_query fields || b || is_until (kept_fields fields) || is_peek (kept_fields fields))) (is_look-kept fields)
+    ∙ ap (λ (b : Bool). (length fields == 4) && (bytes_eq (text_at fields 1) (codes "S") || is_query fields || is_look fields || b || is_peek (kept_fields fields))) (is_until-kept fields)
+    ∙ ap (λ (b : Bool). (length fields == 4) && (bytes_eq (text_at fields 1) (codes "S") || is_query fields || is_look fields || is_until fields || b)) (is_peek-kept fields)
 
 -- a row and the header are judged by what is kept of them
 pub asked-kept : (n lines rows before : ℕ) (fields : List (List ℕ)) → n ≤ 128 → asked_of n lines rows before (kept_fields fields) ≡ asked_of n lines rows before fields
 unfolding asked_of
 asked-kept n lines rows before fields small =
-    rw (is_settle-kept fields, is_query-kept fields, is_look-kept fields, is_until-kept fields, settle-kept before fields, until-kept rows before fields, event-kept n lines small before fields) refl
+    rw (
+      is_settle-kept fields,
+      is_any-kept fields,
+      is_peek-kept fields,
+      is_query-kept fields,
+      is_look-kept fields,
+      is_until-kept fields,
+      settle-kept before fields,
+      until-kept rows before fields,
+      any-kept before fields,
+      peek-kept lines before fields,
+      event-kept n lines small before fields,
+    ) refl
 
 abbrev header_by : Bool → Bool → Bool → Bool → Bool → Bool
 header_by four tick op arg payload = four && tick && op && arg && payload

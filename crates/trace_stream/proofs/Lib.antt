@@ -8,6 +8,7 @@ pub mod KeptRecords
 pub mod Judging
 pub mod Rows
 pub mod Lawful
+mod Peeking
 pub mod Runs
 pub mod Traces
 pub mod Bare

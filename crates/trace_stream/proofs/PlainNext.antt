@@ -89,7 +89,7 @@ other-word op word event other = by (bytes_eq op word) refl
     by false e = refl
 
 word-settles : (op : List ℕ) → is_event_word op ≡ true → is_settle_word op ≡ false
-word-settles op event = rw (other-word op (codes "S") event refl, other-word op (codes "Q") event refl, other-word op (codes "L") event refl, other-word op (codes "U") event refl) refl
+word-settles op event = rw (other-word op (codes "S") event refl, other-word op (codes "Q") event refl, other-word op (codes "L") event refl, other-word op (codes "U") event refl, other-word op (codes "P") event refl) refl
 
 event-settles : (a op b c : List ℕ) → is_event_word op ≡ true → is_settle (a ∷ op ∷ b ∷ c ∷ []) ≡ false
 unfolding field_at

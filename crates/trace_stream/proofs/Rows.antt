@@ -7,11 +7,12 @@ use Rattle.trace_reader.specs.{Records.unended, Rows.event_of, Trace.is_header, 
 use Rattle.trace_reader.proofs.Reading.{records_from-none, records_from-some, shorter, unended-le}
 use Rattle.trace_reader.specs.declared.fault.Kind.TheVariants as kind
 use Rattle.trace_stream.specs.Arrived.{Arrived, Comes, StaysEnded}
-use Rattle.trace_stream.specs.Asked.{asked_event, asked_of, asked_settle, asked_settling, asked_until, is_look, is_query, is_settle, is_until, rows_after, settle_of, tick_asked}
-use Rattle.trace_stream.specs.{Asked.until_of, Kept.{FindsKept, IsKeptOf, kept_fields, most_fields}}
+use Rattle.trace_stream.specs.Asked.{any_of, asked_any, asked_by, asked_event, asked_of, asked_peek, asked_settle, asked_settling, asked_until, is_any, is_look, is_peek, is_query, is_settle, is_until}
+use Rattle.trace_stream.specs.{Asked.{peek_of, rows_after, settle_of, settled_of, settling_of, tick_asked, until_of}, Kept.{FindsKept, IsKeptOf, kept_fields, most_fields}}
 use Rattle.trace_stream.specs.Stream.{AsksNext, HasFault, HasFront, Opens, Standing, asked_before, asked_from, front_from, front_of, front_records, front_rows, is_past}
 use Rattle.trace_stream.specs.{Stream.{most_streamed, records_left, stream_fault_at, stream_of, stream_records, stream_rows}, declared.asked.Asked.Asked}
-use Rattle.trace_stream.specs.{declared.asked.Asked.TheVariants.{Happens, Settle, Query, Look, Until}, declared.asked.Until.Until as Waited}
+use Rattle.trace_stream.specs.{declared.asked.Asked.TheVariants.{Happens, Settle, Query, Look, Peek, Until, UntilAny}, declared.asked.Peek.Peek as Peeked, declared.asked.Until.Until as Waited}
+use Rattle.trace_stream.specs.declared.asked.UntilAny.{UntilAny as Awaited}
 use Rattle.trace_stream.proofs.{Judging.{asked-kept, header-kept, is_settle-kept}, KeptRecords.{kept_read, next_kept-is, none-kept, some-is, some-kept}, Steps.comes-back}
 use Rattle.trace_stream.specs.declared.fault.StreamFault.TheVariants as fault
 
@@ -227,7 +228,9 @@ unfolding asked_of
 happens-counted n lines rows before fields (Settle tick) e within past = within
 happens-counted n lines rows before fields (Query tick) e within past = within
 happens-counted n lines rows before fields (Look tick) e within past = within
+happens-counted n lines rows before fields (Peek peek) e within past = within
 happens-counted n lines rows before fields (Until until) e within past = within
+happens-counted n lines rows before fields (UntilAny until) e within past = within
 happens-counted n lines rows before fields (Happens event) e within past = by (is_settle fields) refl e
   where
     few : (b : Bool) → is_settle fields ≡ b → b ≡ false → rows + 1 ≤ most_streamed
@@ -256,8 +259,21 @@ happens-counted n lines rows before fields (Happens event) e within past = by (i
     settling true q = waits (until_of rows before fields) q
     settling false q = settles (is_query fields) (is_look fields) (settle_of before fields) q
 
-    by : (b : Bool) → is_settle fields ≡ b → (if b then asked_settling (is_until fields) (is_query fields) (is_look fields) (until_of rows before fields) (settle_of before fields) else asked_event (event_of n lines before fields)) ≡ Ok (Happens event) → rows + 1 ≤ most_streamed
-    by true is q = absurd (settling (is_until fields) q)
+    peeks : (r : Result Peeked Kind) → asked_peek {n = n} r ≡ Ok (Happens event) → ⊥
+    peeks (Ok peek) q = cc q
+    peeks (Err kind) q = cc q
+
+    awaits : (r : Result Awaited Kind) → asked_any {n = n} r ≡ Ok (Happens event) → ⊥
+    awaits (Ok until) q = cc q
+    awaits (Err kind) q = cc q
+
+    which : (peek any : Bool) → asked_by {n = n} peek any (peek_of lines before fields) (any_of before fields) (settled_of rows before fields) ≡ Ok (Happens event) → ⊥
+    which true any q = peeks (peek_of lines before fields) q
+    which false true q = awaits (any_of before fields) q
+    which false false q = settling (is_until fields) q
+
+    by : (b : Bool) → is_settle fields ≡ b → (if b then settling_of lines rows before fields else asked_event (event_of n lines before fields)) ≡ Ok (Happens event) → rows + 1 ≤ most_streamed
+    by true is q = absurd (which (is_peek fields) (is_any fields) q)
     by false is q = few (is_settle fields) refl is
 
 -- the header

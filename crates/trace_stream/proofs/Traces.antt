@@ -7,30 +7,34 @@ use Rattle.trace_reader.specs.{Trace.{and_then_rows, event_before, events_of, fa
 use Rattle.trace_reader.specs.{declared.event.EventOp.EventOp, declared.fault.Kind.Kind, declared.fault.ParseFault.ParseFault, declared.fault.TraceFault.TraceFault}
 use Rattle.trace_reader.specs.declared.fault.Kind.TheVariants as kind
 use Rattle.trace_reader.specs.declared.fault.ParseFault.TheVariants as whole
-use Rattle.trace_stream.specs.Asked.{asked_event, asked_of, asked_settle, asked_settling, asked_until, is_look, is_query, is_settle, is_settle_word, is_until, rows_after}
-use Rattle.trace_stream.specs.{Asked.{settle_of, tick_asked, until_of}, Laws.{FaultLaw, StreamLaw, TraceLaw, all_events}}
+use Rattle.trace_stream.specs.Asked.{any_of, asked_any, asked_by, asked_event, asked_of, asked_peek, asked_settle, asked_settling, asked_until, is_any, is_look, is_peek, is_query, is_settle, is_settle_word, is_until}
+use Rattle.trace_stream.specs.{Asked.{peek_of, rows_after, settle_of, settled_of, settling_of, tick_asked, until_of}, Laws.{FaultLaw, StreamLaw, TraceLaw, all_events}}
 use Rattle.trace_stream.specs.{Stream.{and_then_asked, asked_before, is_past, most_streamed, stream_fault_at, stream_of, stream_records, stream_rows}, declared.asked.Asked.Asked}
-use Rattle.trace_stream.specs.{declared.asked.Asked.TheVariants.Happens, declared.asked.Until.Until as Waited, declared.fault.StreamFault.StreamFault}
+use Rattle.trace_stream.specs.{declared.asked.Asked.TheVariants.Happens, declared.asked.Peek.Peek as Peeked, declared.asked.Until.Until as Waited, declared.asked.UntilAny.UntilAny as Awaited}
+use Rattle.trace_stream.specs.declared.fault.StreamFault.{StreamFault}
 use Rattle.trace_stream.specs.declared.fault.StreamFault.TheVariants as fault
 
 -- an operation to settle is none of a trace
 settle-op : (n lines : ℕ) (op line payload : List ℕ) → is_settle_word op ≡ true → op_of n lines op line payload ≡ Err kind.Op
 unfolding op_of
-settle-op n lines op line payload is = by (bytes_eq op (codes "S")) (bytes_eq op (codes "Q")) (bytes_eq op (codes "L")) refl refl refl is
+settle-op n lines op line payload is = by (bytes_eq op (codes "S")) (bytes_eq op (codes "Q")) (bytes_eq op (codes "L")) (bytes_eq op (codes "U")) refl refl refl refl is
   where
-    by : (b c d : Bool) → bytes_eq op (codes "S") ≡ b → bytes_eq op (codes "Q") ≡ c → bytes_eq op (codes "L") ≡ d → (b || c || d || bytes_eq op (codes "U")) ≡ true
-        → op_of n lines op line payload ≡ Err kind.Op
-    by true c d e f g q =
+    by : (b c d u : Bool) → bytes_eq op (codes "S") ≡ b → bytes_eq op (codes "Q") ≡ c → bytes_eq op (codes "L") ≡ d → bytes_eq op (codes "U") ≡ u
+        → (b || c || d || u || bytes_eq op (codes "P")) ≡ true → op_of n lines op line payload ≡ Err kind.Op
+    by true c d u e f g i q =
         let word : op ≡ codes "S" = (bytes_eq-Decides op (codes "S")).0 e in
         rw word refl
-    by false true d e f g q =
+    by false true d u e f g i q =
         let word : op ≡ codes "Q" = (bytes_eq-Decides op (codes "Q")).0 f in
         rw word refl
-    by false false true e f g q =
+    by false false true u e f g i q =
         let word : op ≡ codes "L" = (bytes_eq-Decides op (codes "L")).0 g in
         rw word refl
-    by false false false e f g q =
-        let word : op ≡ codes "U" = (bytes_eq-Decides op (codes "U")).0 q in
+    by false false false true e f g i q =
+        let word : op ≡ codes "U" = (bytes_eq-Decides op (codes "U")).0 i in
+        rw word refl
+    by false false false false e f g i q =
+        let word : op ≡ codes "P" = (bytes_eq-Decides op (codes "P")).0 q in
         rw word refl
 
 and-first : (p q : Bool) → (p && q) ≡ true → p ≡ true
@@ -88,6 +92,26 @@ until-fault n rows before fields bad None e other h =
     rw e (ap Err same)
 until-fault n rows before fields bad (Some tick) e other h = rw e (fault-at-early {n = n} tick bad (nat_lt tick before) _ other h)
 
+any-fault : (n before : ℕ) (fields : List (List ℕ)) (bad : Kind) (tick : Option ℕ) → tick_of (text_at fields 0) ≡ tick → bad ≢ kind.Op → row_by {n = n} before tick (Err kind.Op) ≡ Err bad → any_of before fields ≡ Err bad
+unfolding any_of
+any-fault n before fields bad None e other h =
+    let same : kind.Tick ≡ bad = cc in
+    rw e (ap Err same)
+any-fault n before fields bad (Some tick) e other h = rw e (fault-at-early {n = n} tick bad (nat_lt tick before) _ other h)
+
+peek-fault : (n lines before : ℕ) (fields : List (List ℕ)) (bad : Kind) (tick : Option ℕ) → tick_of (text_at fields 0) ≡ tick → bad ≢ kind.Op → row_by {n = n} before tick (Err kind.Op) ≡ Err bad → peek_of lines before fields ≡ Err bad
+unfolding peek_of
+peek-fault n lines before fields bad None e other h =
+    let same : kind.Tick ≡ bad = cc in
+    rw e (ap Err same)
+peek-fault n lines before fields bad (Some tick) e other h = rw e (fault-at-early {n = n} tick bad (nat_lt tick before) _ other h)
+
+by-fault : (n : ℕ) (peek any : Bool) (peeked : Result Peeked Kind) (awaited : Result Awaited Kind) (others : Result (Asked n) Kind) (bad : Kind) → peeked ≡ Err bad → awaited ≡ Err bad → others ≡ Err bad
+    → asked_by peek any peeked awaited others ≡ Err bad
+by-fault n true any peeked awaited others bad e f g = ap (asked_peek {n = n}) e
+by-fault n false true peeked awaited others bad e f g = ap (asked_any {n = n}) f
+by-fault n false false peeked awaited others bad e f g = g
+
 settling-fault : (n : ℕ) (until query look : Bool) (waited : Result Waited Kind) (tick : Result ℕ Kind) (bad : Kind) → waited ≡ Err bad → tick ≡ Err bad → asked_settling {n = n} until query look waited tick ≡ Err bad
 settling-fault n true query look waited tick bad e f = ap (asked_until {n = n}) e
 settling-fault n false query look waited tick bad e f = ap (asked_settle {n = n} query look) f
@@ -97,7 +121,7 @@ pub asked-ok : (n lines rows before : ℕ) (fields : List (List ℕ)) (event : E
 unfolding asked_of
 asked-ok n lines rows before fields event e = by (is_settle fields) refl
   where
-    by : (b : Bool) → is_settle fields ≡ b → (if b then asked_settling (is_until fields) (is_query fields) (is_look fields) (until_of rows before fields) (settle_of before fields) else asked_event (event_of n lines before fields)) ≡ Ok (Happens event)
+    by : (b : Bool) → is_settle fields ≡ b → (if b then settling_of lines rows before fields else asked_event (event_of n lines before fields)) ≡ Ok (Happens event)
     by true is = absurd (no-event before (tick_of (text_at fields 0)) event (sym (settle-event n lines before fields is) ∙ e))
     by false is = rw e refl
 
@@ -105,11 +129,13 @@ asked-err : (n lines rows before : ℕ) (fields : List (List ℕ)) (bad : Kind) 
 unfolding asked_of
 asked-err n lines rows before fields bad other e = by (is_settle fields) refl
   where
-    by : (b : Bool) → is_settle fields ≡ b → (if b then asked_settling {n = n} (is_until fields) (is_query fields) (is_look fields) (until_of rows before fields) (settle_of before fields) else asked_event (event_of n lines before fields)) ≡ Err bad
+    by : (b : Bool) → is_settle fields ≡ b → (if b then settling_of {n = n} lines rows before fields else asked_event (event_of n lines before fields)) ≡ Err bad
     by true is =
         let none = sym (settle-event n lines before fields is) ∙ e in
-        settling-fault n (is_until fields) (is_query fields) (is_look fields) (until_of rows before fields) (settle_of before fields) bad
-        (until-fault n rows before fields bad (tick_of (text_at fields 0)) refl other none) (settle-fault n before fields bad (tick_of (text_at fields 0)) refl other none)
+        by-fault n (is_peek fields) (is_any fields) (peek_of lines before fields) (any_of before fields) (settled_of rows before fields) bad
+        (peek-fault n lines before fields bad (tick_of (text_at fields 0)) refl other none) (any-fault n before fields bad (tick_of (text_at fields 0)) refl other none)
+        (settling-fault n (is_until fields) (is_query fields) (is_look fields) (until_of rows before fields) (settle_of before fields) bad
+        (until-fault n rows before fields bad (tick_of (text_at fields 0)) refl other none) (settle-fault n before fields bad (tick_of (text_at fields 0)) refl other none))
     by false is = rw e refl
 
 -- and what is asked as an event is an event
@@ -131,14 +157,27 @@ event-asked n lines rows before fields event h = by (is_settle fields) h
     settling true q = waits (until_of rows before fields) q
     settling false q = settles (is_query fields) (is_look fields) (settle_of before fields) q
 
+    peeks : (r : Result Peeked Kind) → asked_peek {n = n} r ≡ Ok (Happens event) → event_of n lines before fields ≡ Ok event
+    peeks (Ok peek) q = cc q
+    peeks (Err kind) q = cc q
+
+    awaits : (r : Result Awaited Kind) → asked_any {n = n} r ≡ Ok (Happens event) → event_of n lines before fields ≡ Ok event
+    awaits (Ok until) q = cc q
+    awaits (Err kind) q = cc q
+
+    which : (peek any : Bool) → asked_by {n = n} peek any (peek_of lines before fields) (any_of before fields) (settled_of rows before fields) ≡ Ok (Happens event) → event_of n lines before fields ≡ Ok event
+    which true any q = peeks (peek_of lines before fields) q
+    which false true q = awaits (any_of before fields) q
+    which false false q = settling (is_until fields) q
+
     happens : (r : Result (Event n) Kind) → asked_event r ≡ Ok (Happens event) → r ≡ Ok event
     happens (Ok found) q =
         let same : found ≡ event = cc in
         ap Ok same
     happens (Err kind) q = cc q
 
-    by : (b : Bool) → (if b then asked_settling (is_until fields) (is_query fields) (is_look fields) (until_of rows before fields) (settle_of before fields) else asked_event (event_of n lines before fields)) ≡ Ok (Happens event) → event_of n lines before fields ≡ Ok event
-    by true q = settling (is_until fields) q
+    by : (b : Bool) → (if b then settling_of lines rows before fields else asked_event (event_of n lines before fields)) ≡ Ok (Happens event) → event_of n lines before fields ≡ Ok event
+    by true q = which (is_peek fields) (is_any fields) q
     by false q = happens (event_of n lines before fields) q
 
 -- one row in front of others

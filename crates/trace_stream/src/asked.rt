@@ -2,10 +2,10 @@
 ghost use Rattle.std.specs.Prelude.{◌≡◌, ◌<◌, ◌≤◌};
 ghost use Rattle.trace_reader.specs.Rows.{event_of};
 ghost use Rattle.trace_reader.specs.Trace.{is_header};
-ghost use Rattle.trace_stream.specs.Asked.{asked_of, is_event_word, is_look, is_query, is_settle, is_settle_word, is_until, row_of, rows_after, settle_of, tick_asked, tick_named, until_of};
+ghost use Rattle.trace_stream.specs.Asked.{any_of, asked_of, is_any, is_event_word, is_look, is_peek, is_query, is_settle, is_settle_word, is_until, peek_of, row_of, rows_after, settle_of, settled_of, tick_asked, tick_named, until_of};
 
 use crate::kept::Gathered;
-use trace_reader::{Event, Kind, LATEST_TICK, number, read_fields};
+use trace_reader::{Event, EventOp, Kind, LATEST_TICK, number, read_fields};
 
 /// What one row of a streamed trace asks for.
 #[derive(Clone, Copy, PartialEq)]
@@ -18,8 +18,21 @@ pub enum Asked<const B: usize> {
     Query(u64),
     /// Every bank comes to this tick, and how worn the module is then is asked. The row has no number.
     Look(u64),
+    /// Every bank comes to a tick, and the newest bytes of a line are asked. The row has no number.
+    Peek(Peek),
     /// Every bank goes on until a row has its outcome. The row has no number.
     Until(Until),
+    /// Every bank goes on until any row has its outcome. The row has no number.
+    UntilAny(UntilAny),
+}
+
+/// A peek: the newest bytes of a line are asked, for which nothing is sensed.
+#[derive(Clone, Copy, PartialEq)]
+pub struct Peek {
+    /// The tick to which every bank comes.
+    pub tick: u64,
+    /// The line, from 0.
+    pub line: u32,
 }
 
 /// A settle until a row has its outcome: the module goes on to the first tick behind which it has, not before the one at which it stands.
@@ -27,6 +40,16 @@ pub enum Asked<const B: usize> {
 pub struct Until {
     /// The number of the row that is waited for, from 1.
     pub row: u32,
+    /// The tick behind which the module doesn't go: that of the row that asks.
+    pub limit: u64,
+    /// The tick that was reached; of a row that isn't served yet, the tick of the row before it.
+    pub reached: u64,
+}
+
+/// A settle until any row has its outcome that had none: the module goes on to the first tick behind which one has, not before the one at which
+/// it stands.
+#[derive(Clone, Copy, PartialEq)]
+pub struct UntilAny {
     /// The tick behind which the module doesn't go: that of the row that asks.
     pub limit: u64,
     /// The tick that was reached; of a row that isn't served yet, the tick of the row before it.
@@ -41,7 +64,9 @@ impl<const B: usize> Asked<B> {
         match self {
             Asked::Happens(event) => event.tick,
             Asked::Settle(tick) | Asked::Query(tick) | Asked::Look(tick) => *tick,
+            Asked::Peek(peek) => peek.tick,
             Asked::Until(until) => until.reached,
+            Asked::UntilAny(until) => until.reached,
         }
     }
 
@@ -52,7 +77,9 @@ impl<const B: usize> Asked<B> {
         match self {
             Asked::Happens(event) => event.tick,
             Asked::Settle(tick) | Asked::Query(tick) | Asked::Look(tick) => *tick,
+            Asked::Peek(peek) => peek.tick,
             Asked::Until(until) => until.limit,
+            Asked::UntilAny(until) => until.limit,
         }
     }
 
@@ -63,7 +90,12 @@ impl<const B: usize> Asked<B> {
     {
         match self {
             Asked::Happens(_) => rows + 1,
-            Asked::Settle(_) | Asked::Query(_) | Asked::Look(_) | Asked::Until(_) => rows,
+            Asked::Settle(_)
+            | Asked::Query(_)
+            | Asked::Look(_)
+            | Asked::Peek(_)
+            | Asked::Until(_)
+            | Asked::UntilAny(_) => rows,
         }
     }
 }
@@ -80,7 +112,7 @@ pub fn is_header_row(row: &Gathered) -> bool
         && row.field(3) == b"data".as_slice()
 }
 
-/// Whether it is a row that settles, right or wrong, as a query, a look and a settle until do.
+/// Whether it is a row that settles, right or wrong, as a query, a look, a peek and a settle until do.
 pub fn is_settle_row(row: &Gathered) -> bool
     ensures { result ≡ is_settle row.now.fields }
 {
@@ -92,7 +124,7 @@ fn is_settle_word(op: &[u8]) -> bool
     ensures { result ≡ is_settle_word op.now }
 {
     match op {
-        b"S" | b"Q" | b"L" | b"U" => true,
+        b"S" | b"Q" | b"L" | b"U" | b"P" => true,
         _ => false,
     }
 }
@@ -111,11 +143,25 @@ fn is_look_row(row: &Gathered) -> bool
     row.field(1) == b"L".as_slice()
 }
 
+// Whether a row that settles is a peek.
+fn is_peek_row(row: &Gathered) -> bool
+    ensures { result ≡ is_peek row.now.fields }
+{
+    row.field(1) == b"P".as_slice()
+}
+
 // Whether it is a settle until.
 fn is_until_row(row: &Gathered) -> bool
     ensures { result ≡ is_until row.now.fields }
 {
     row.field(1) == b"U".as_slice()
+}
+
+// Whether it is one that names no row.
+fn is_any_row(row: &Gathered) -> bool
+    ensures { result ≡ is_any row.now.fields }
+{
+    is_until_row(row) && row.field(2).is_empty()
 }
 
 /// Whether an operation is a read, a write or a cut, which every trace has.
@@ -175,6 +221,49 @@ fn read_until(row: &Gathered, rows: u32, before: u64) -> Result<Until, Kind>
     })
 }
 
+// A settle until any row has its outcome.
+#[tactic(auto, unfolding(crate::specs::Asked::any_of))]
+fn read_any(row: &Gathered, before: u64) -> Result<UntilAny, Kind>
+    ensures { result ≡ any_of before row.now.fields }
+{
+    let limit = number(row.field(0), 13, LATEST_TICK).ok_or(Kind::Tick)?;
+    if limit < before {
+        return Err(Kind::Order);
+    }
+    if !row.field(3).is_empty() {
+        return Err(Kind::Payload);
+    }
+    Ok(UntilAny {
+        limit,
+        reached: before,
+    })
+}
+
+// A peek: its fields are those of a read, which has no bytes, so that those of a line of any size are read.
+fn read_peek(row: &Gathered, lines: u32, before: u64) -> Result<Peek, Kind>
+    requires { 1 ≤ lines }
+    ensures { result ≡ peek_of lines before row.now.fields }
+{
+    let read = read_fields::<1>(
+        row.field(0),
+        b"R",
+        row.field(2),
+        row.field(3),
+        lines,
+        before,
+    );
+    match read {
+        Ok(read) => match read.op {
+            EventOp::Read(line) => Ok(Peek {
+                tick: read.tick,
+                line,
+            }),
+            _ => unreachable!(),
+        },
+        Err(kind) => Err(kind),
+    }
+}
+
 // What happens by a row that doesn't settle.
 #[tactic(auto, unfolding(trace_reader::specs::Rows::event_of))]
 fn read_event<const B: usize>(row: &Gathered, lines: u32, before: u64) -> Result<Event<B>, Kind>
@@ -208,6 +297,19 @@ pub fn read_asked<const B: usize>(
     if !is_settle_row(row) {
         return Ok(Asked::Happens(read_event(row, lines, before)?));
     }
+    if is_peek_row(row) {
+        return Ok(Asked::Peek(read_peek(row, lines, before)?));
+    }
+    if is_any_row(row) {
+        return Ok(Asked::UntilAny(read_any(row, before)?));
+    }
+    read_settled(row, rows, before)
+}
+
+// A row that settles, but for a peek and a settle until any row has its outcome.
+fn read_settled<const B: usize>(row: &Gathered, rows: u32, before: u64) -> Result<Asked<B>, Kind>
+    ensures { result ≡ settled_of rows before row.now.fields }
+{
     if is_until_row(row) {
         return Ok(Asked::Until(read_until(row, rows, before)?));
     }

@@ -12,7 +12,7 @@ mod records;
 mod stream;
 mod whole;
 
-pub use asked::{Asked, Until};
+pub use asked::{Asked, Peek, Until, UntilAny};
 pub use fault::StreamFault;
 pub use stream::{MOST_STREAMED, TraceStream};
 pub use whole::read_stream;

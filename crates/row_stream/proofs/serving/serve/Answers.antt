@@ -27,3 +27,13 @@ pub returns-in-Until-clause-serves : goal.returns-in-Until-clause-serves
 returns-in-Until-clause-serves g c =
     let P : Asked g.row.B → Type 0 = λ row. ServesOn (λ before. reached_at c.serve_until.new.pcm.tick row) c.args.pcm.now c.serve_until.new.pcm (g.A.CellArray.state c.args.array.now) (g.A.CellArray.state c.serve_until.new.array) c.args.out.now c.serve_until.new.out in
     subst P (sym c.in-Until.is) c.serve_until.ensures.serves
+
+pub returns-in-Peek-clause-serves : goal.returns-in-Peek-clause-serves
+returns-in-Peek-clause-serves g c =
+    let P : Asked g.row.B → Type 0 = λ row. ServesOn (λ before. reached_at c.serve_peek.new.pcm.tick row) c.args.pcm.now c.serve_peek.new.pcm (g.A.CellArray.state c.args.array.now) (g.A.CellArray.state c.serve_peek.new.array) c.args.out.now c.serve_peek.new.out in
+    subst P (sym c.in-Peek.is) c.serve_peek.ensures.serves
+
+pub returns-in-UntilAny-clause-serves : goal.returns-in-UntilAny-clause-serves
+returns-in-UntilAny-clause-serves g c =
+    let P : Asked g.row.B → Type 0 = λ row. ServesOn (λ before. reached_at c.serve_until_any.new.pcm.tick row) c.args.pcm.now c.serve_until_any.new.pcm (g.A.CellArray.state c.args.array.now) (g.A.CellArray.state c.serve_until_any.new.array) c.args.out.now c.serve_until_any.new.out in
+    subst P (sym c.in-UntilAny.is) c.serve_until_any.ensures.serves

@@ -6,7 +6,7 @@ use Rattle.bank_timing.{specs.Extending.{next_end, outcome_in}, proofs.Sizes.tim
 use Rattle.pcm_module.specs.{Asking.asked_for, Settling.IsAtTick, State.bank_at}
 use Rattle.row_printer.specs.Printing.{table_told}
 use Rattle.trace_stream.specs.{Asked.events_in, declared.asked.Until.Until as Waited}
-use Rattle.row_stream.{specs.Reaching.{CameBetween, CameBy, IsUnsetOrAt}, proofs.Going.banks-order}
+use Rattle.row_stream.{specs.Reaching.{CameBetween, CameBy, IsUnsetOrAt}, specs.Serving.IsNextTurn, proofs.Going.banks-order}
 use Rattle.row_stream.proofs.Nowhere.{at-bank, at-tick, first-nowhere, known-nowhere, next-later, next-within, told-between, told-by-then}
 use Rattle.row_stream.proofs.Turning.{gone-first, gone-more, serving-until, turn-order, turn-so}
 use Rattle.row_stream.proofs.waiting.serve_until.Goals as goal
@@ -30,9 +30,9 @@ waits-init g c =
           let changes =
           told-by-then had.history (events_in asked) c.args.pcm.now state (table_told out) had.served.replays c.shape.ensures.in_range c.settle.new.self after (table_told results) led.0 led.1
           e.shape e.seed c.tick-tick.result e.settled in
-          gone-first raw seed asked c.args.pcm.now state out.rows out.told out.prints out.snapshots had row limit c.settle.new.self after results.rows results.told
+          gone-first raw seed asked c.args.pcm.now state out.rows out.told out.prints out.snapshots had (IsNextTurn row limit) c.settle.new.self after results.rows results.told
           e.shape e.seed e.going e.rows on.rows e.table e.replays c.tick-tick.result c.tick-tick.ensures e.tick e.settled
-          (turn-so raw seed asked c.args.pcm.now state out.rows out.told out.prints out.snapshots had row limit written faults (λ o. CameBy c.tick-tick.result o) out results on.rows had.served.size
+          (turn-so raw seed asked c.args.pcm.now state out.rows out.told out.prints out.snapshots had (IsNextTurn row limit) written faults (λ o. CameBy c.tick-tick.result o) out results on.rows had.served.size
           c.tells_once.ensures order changes);
       settled = λ bank there. subst (λ (t : ℕ). IsSomeAnd (slice_get c.settle.new.self.banks bank) (IsAtTick t)) (sym e.tick) (e.settled bank there);
       from = omega (arith, e.tick, c.tick-tick.ensures);
@@ -105,14 +105,14 @@ waits-preserved g c =
           let gone = inv.came raw seed asked had in
           let h : ℕ → List (TimedEvent g.row.B g.row.M) = λ bank. gone.added bank ++ had.history bank in
           let led = e.quiet h (asked_for (events_in asked)) gone.served.replays in
-          let order = turn-order raw seed asked c.args.pcm.now was out.rows out.told out.prints out.snapshots had row limit c.waits.pcm state stood.rows stood.told gone
+          let order = turn-order raw seed asked c.args.pcm.now was out.rows out.told out.prints out.snapshots had (IsNextTurn row limit) c.waits.pcm state stood.rows stood.told gone
           g.K.Sink.written g.K.Sink.faults stood results c.tells_once-in-Some.ensures e.order in
           let changes =
           told-between h (events_in asked) c.waits.pcm state (table_told stood) gone.served.replays c.in-Some.ensures.shape c.settle-in-Some.new.self after (table_told results) led.0 led.1
           e.shape e.seed next e.settled c.waits.pcm.tick rises inv.settled led.2 in
-          gone-more raw seed asked c.args.pcm.now was out.rows out.told out.prints out.snapshots had row limit c.waits.pcm state stood.rows stood.told gone
+          gone-more raw seed asked c.args.pcm.now was out.rows out.told out.prints out.snapshots had (IsNextTurn row limit) c.waits.pcm state stood.rows stood.told gone
           c.settle-in-Some.new.self after results.rows results.told e.shape e.seed e.going e.rows on.rows e.table e.replays next rises e.tick e.settled (c.in-Some.bank, some.0, some.1, ends)
-          (turn-so raw seed asked c.args.pcm.now was out.rows out.told out.prints out.snapshots had row limit g.K.Sink.written g.K.Sink.faults (λ o. CameBetween c.waits.pcm.tick next o) stood results on.rows
+          (turn-so raw seed asked c.args.pcm.now was out.rows out.told out.prints out.snapshots had (IsNextTurn row limit) g.K.Sink.written g.K.Sink.faults (λ o. CameBetween c.waits.pcm.tick next o) stood results on.rows
           gone.served.size c.tells_once-in-Some.ensures order changes);
       settled = λ bank there. subst (λ (t : ℕ). IsSomeAnd (slice_get c.settle-in-Some.new.self.banks bank) (IsAtTick t)) (sym e.tick) (e.settled bank there);
       from = omega (arith, e.tick, inv.from, at, later, c.next_end-next.ensures);
@@ -149,8 +149,8 @@ returns-clause-serves g c = record {
             inl (known-nowhere (λ bank. gone.added bank ++ had.history bank) (events_in before) c.waits.pcm (g.A.CellArray.state c.waits.array) (table_told c.waits.out) gone.served.replays c.in_default.ensures.shape c.args.until.now.row
             named.0 (omega (arith, named.1, had.counted)) nowhere)
       ] in
-      serving-until raw seed before c.args.pcm.now (g.A.CellArray.state c.args.array.now) out.rows out.told out.prints out.snapshots had until.row until.limit c.waits.pcm (g.A.CellArray.state c.waits.array) c.waits.out.rows c.waits.out.told gone
-      until c.settled.new.self.rows c.settled.new.self.told c.settled.new.self.prints c.settled.new.self.snapshots refl refl c.settled.ensures.rows (rw c.tick.ensures at c.settled.ensures.told) refl inv.settled (omega (arith, inv.within, c.requires.in_time))
+      serving-until raw seed before c.args.pcm.now (g.A.CellArray.state c.args.array.now) out.rows out.told out.prints out.snapshots had c.waits.pcm (g.A.CellArray.state c.waits.array) c.waits.out.rows c.waits.out.told
+      until gone c.settled.new.self.rows c.settled.new.self.told c.settled.new.self.prints c.settled.new.self.snapshots c.settled.ensures.rows (rw c.tick.ensures at c.settled.ensures.told) refl inv.settled (omega (arith, inv.within, c.requires.in_time))
       (record { from = inv.from; within = inv.within; known = known; first = inv.first }) (c.settled.ensures.prints ∙ inv.prints) (c.settled.ensures.snapshots ∙ inv.snapshots);
   prints = c.settled.ensures.prints ∙ c.waits.invariant.prints;
   wear = c.waits.invariant.wear;

@@ -59,8 +59,8 @@ returns-in-Err-play-clause-ends g c =
     let source = source_between g.S.Source.left g.S.Source.taken g.S.Source.faults c.args.source.now new.source in
     let out = sink_change g.K.Sink.written g.K.Sink.faults c.args.out.value c.end.result.0.value in
     let state = g.A.CellArray.state new.array in
-    let shown = c.shown_of-shown.ensures.is ∙ ap (λ raw. shown_by raw c.args.job.now.print) c.raw.ensures.same in
-    let prints : new.out.prints ≡ shown_by c.args.job.now.shape c.args.job.now.print = p.prints ∙ c.new-printer.ensures.prints ∙ shown in
+    let shown = c.shown_of-shown.ensures.is ∙ ap (λ raw. shown_by raw c.args.job.now.seed c.args.job.now.print) c.raw.ensures.same in
+    let prints : new.out.prints ≡ shown_by c.args.job.now.shape c.args.job.now.seed c.args.job.now.print = p.prints ∙ c.new-printer.ensures.prints ∙ shown in
     record {
       done = tt;
       write = λ is.
@@ -86,7 +86,7 @@ returns-in-Ok-print_closing-clause-ends g c =
     let array = g.A.CellArray.state c.print_closing.new.array in
     let all = c.in-Ok-print_closing.ensures.all in
     let calm = calm-done (Ok c.in-Ok-play.done) c.in-Ok-play.done refl in
-    let shown = c.shown_of-shown.ensures.is ∙ ap (λ raw. shown_by raw c.args.job.now.print) c.raw.ensures.same in
+    let shown = c.shown_of-shown.ensures.is ∙ ap (λ raw. shown_by raw c.args.job.now.seed c.args.job.now.print) c.raw.ensures.same in
     record {
       done =
           stream-whole g.row.B g.row.M g.row.E c.args.job.now source new.pcm before new.out.rows new.out.told new.out.prints new.out.snapshots (p.prints ∙ c.new-printer.ensures.prints ∙ shown) c.end-out.ensures.once c.requires.job
@@ -111,7 +111,7 @@ returns-clause-ends g c =
     let array = g.A.CellArray.state c.print_closing.new.array in
     let some = c.print_closing.ensures.sensed in
     let calm = calm-done (Ok c.in-Ok-play.done) c.in-Ok-play.done refl in
-    let shown = c.shown_of-shown.ensures.is ∙ ap (λ raw. shown_by raw c.args.job.now.print) c.raw.ensures.same in
+    let shown = c.shown_of-shown.ensures.is ∙ ap (λ raw. shown_by raw c.args.job.now.seed c.args.job.now.print) c.raw.ensures.same in
     let falls : g.K.Sink.faults c.args.out.value ≤ g.K.Sink.faults c.deref_mut.result.now = rw (c.deref_mut.ensures.value, c.end-out.ensures.sink) (p.falls _ _ c.new-printer.ensures.printing) in
     record {
       done = tt;
@@ -133,18 +133,18 @@ returns-in-Err-clause-waits g c = (zero, refl)
 
 pub returns-in-Err-play-clause-waits : goal.returns-in-Err-play-clause-waits
 returns-in-Err-play-clause-waits g c =
-    let shown = c.shown_of-shown.ensures.is ∙ ap (λ raw. shown_by raw c.args.job.now.print) c.raw.ensures.same in
+    let shown = c.shown_of-shown.ensures.is ∙ ap (λ raw. shown_by raw c.args.job.now.seed c.args.job.now.print) c.raw.ensures.same in
     waits-shown g.row.B g.row.M g.row.E c.args.job.now (source_between g.S.Source.left g.S.Source.taken g.S.Source.faults c.args.source.now c.play.new.source) g.K.Sink.written (g.K.Sink.written c.args.out.value)
     c.new-printer.result.prints c.requires.job (c.new-printer.ensures.prints ∙ shown) (c.play.ensures.waits _ _ c.new-printer.ensures.printing)
 
 pub returns-in-Ok-print_closing-clause-waits : goal.returns-in-Ok-print_closing-clause-waits
 returns-in-Ok-print_closing-clause-waits g c =
-    let shown = c.shown_of-shown.ensures.is ∙ ap (λ raw. shown_by raw c.args.job.now.print) c.raw.ensures.same in
+    let shown = c.shown_of-shown.ensures.is ∙ ap (λ raw. shown_by raw c.args.job.now.seed c.args.job.now.print) c.raw.ensures.same in
     waits-shown g.row.B g.row.M g.row.E c.args.job.now (source_between g.S.Source.left g.S.Source.taken g.S.Source.faults c.args.source.now c.play.new.source) g.K.Sink.written (g.K.Sink.written c.args.out.value)
     c.new-printer.result.prints c.requires.job (c.new-printer.ensures.prints ∙ shown) (c.play.ensures.waits _ _ c.new-printer.ensures.printing)
 
 pub returns-clause-waits : goal.returns-clause-waits
 returns-clause-waits g c =
-    let shown = c.shown_of-shown.ensures.is ∙ ap (λ raw. shown_by raw c.args.job.now.print) c.raw.ensures.same in
+    let shown = c.shown_of-shown.ensures.is ∙ ap (λ raw. shown_by raw c.args.job.now.seed c.args.job.now.print) c.raw.ensures.same in
     waits-shown g.row.B g.row.M g.row.E c.args.job.now (source_between g.S.Source.left g.S.Source.taken g.S.Source.faults c.args.source.now c.play.new.source) g.K.Sink.written (g.K.Sink.written c.args.out.value)
     c.new-printer.result.prints c.requires.job (c.new-printer.ensures.prints ∙ shown) (c.play.ensures.waits _ _ c.new-printer.ensures.printing)

@@ -1,7 +1,7 @@
 use Rattle.std.proofs.Common.{◌≡◌, List, ℕ, [], ◌∷◌, ◌++◌, ◌+◌, length, ◌∙◌, ap, sym, append_assoc, refl, arith}
 use Rattle.std.proofs.lemmas.List.{length_push}
 use Rattle.result_rows.{specs.declared.Outcome.Outcome, proofs.Sizes.outcome_fits}
-use Rattle.row_printer.{specs.Telling.outcomes_in, proofs.Telling.outcomes-more}
+use Rattle.row_printer.{specs.Telling.outcomes_in, proofs.Telling.{heard-one, outcomes-more}}
 use Rattle.pcm_library.{specs.Keeping.{kept_of, kept_pairs}, specs.declared.keeper.Kept.Kept, proofs.Counting.some-untold}
 use Rattle.ghost_list.specs.Items.{items}
 use Rattle.pcm_library.proofs.{Keeping.{pairs-more, table-set, tells-next}, Sizes.kept_fits}
@@ -58,6 +58,7 @@ returns-clause-goes_on g c =
         snapshots = refl;
         rows = refl;
         prints = refl;
+        heard = heard-one c.self.inside.heard;
         printing = λ before first h. h;
       };
       taken = refl;

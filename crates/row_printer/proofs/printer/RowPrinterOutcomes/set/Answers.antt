@@ -1,5 +1,5 @@
 use Rattle.std.proofs.Common.{rules, arith, [], ◌∷◌, refl}
-use Rattle.row_printer.{specs.Telling.outcomes_in, proofs.Rows.{tells-next, table-set, set-counted, few-counted}, proofs.Telling.outcomes-more}
+use Rattle.row_printer.{specs.Telling.outcomes_in, proofs.Rows.{tells-next, table-set, set-counted, few-counted}, proofs.Telling.{heard-one, outcomes-more}}
 use Rattle.ghost_list.specs.Items.{items}
 use Rattle.row_printer.proofs.printer.RowPrinterOutcomes.set.Goals as goal
 
@@ -32,6 +32,7 @@ returns-clause-goes_on g c =
       snapshots = refl;
       rows = refl;
       prints = refl;
+      heard = heard-one c.self.inside.heard;
       printing = λ before first h.
           rw c.and.ensures.items (c.print_line-self-inside.ensures.printed before first (items c.self.inside.told) (items c.self.inside.snapshots) (rw c.deref_mut.ensures.value h));
     })
