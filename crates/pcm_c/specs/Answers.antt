@@ -89,6 +89,16 @@ module _ {n m e : ℕ} {S : Type 0} (s : Serving n m e S) where
   abbrev pub bank_status : (bank : ℕ) → Status
   bank_status bank = if nat_lt bank s.module_.shape.banks then Done else NoBank
 
+  -- whether there is such a line, and whether so many bytes are as many as it has
+  abbrev pub line_status : (line : ℕ) → Status
+  line_status line = if nat_lt line (total_of s.module_.shape) then Done else NoLine
+
+  abbrev pub newest_status : (line size : ℕ) → Status
+  newest_status line size =
+      if nat_lt line (total_of s.module_.shape)
+      then (if size == n then Done else Size)
+      else NoLine
+
 -- a refusal, and an answer, by a module with lines of either size
 abbrev pub Refusal : Type 0
 Refusal = (n m e : ℕ) → Serving n m e (SeededArray n m) → Option Status

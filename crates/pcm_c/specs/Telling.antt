@@ -1,16 +1,16 @@
 -- How outcomes and what waits in a bank are told to C.
-use Rattle.std.specs.Prelude.{◌≡◌, ℕ, ◌≤◌, [], length, take, unwrap_or, Option, Some, None}
-use Rattle.cell_rows.specs.Energy.{no_energy}
+use Rattle.std.specs.Prelude.{◌≡◌, ℕ, ◌≤◌, List, [], length, take, unwrap_or, Option, Some, None}
+use Rattle.cell_rows.specs.{Energy.no_energy, declared.tells.CellWear.CellWear}
 use Rattle.result_rows.specs.{Outcomes.{bytes_of, place_of, tick_of}, declared.Outcome.Outcome}
 use Rattle.result_rows.specs.declared.Outcome.TheVariants as out
-use Rattle.pcm_module.specs.State.{bank_at}
+use Rattle.pcm_module.specs.State.{bank_at, stand_now}
 use Rattle.row_stream.specs.Answering.{backlog_of}
-use Rattle.pcm_cells.specs.Seeded.{seeded_state}
+use Rattle.pcm_cells.specs.Seeded.{seeded_changes, seeded_state}
 use Rattle.wear_totals.specs.Wear.{wear_of}
 use Rattle.row_printer.specs.{declared.told.ArrayWear.ArrayWear, declared.told.Backlog.Backlog, declared.told.Mark.Mark, declared.told.Mark.TheVariants.{Going, Exhausted, Halted}}
-use Rattle.pcm_library.specs.declared.keeper.Kept.{Kept}
+use Rattle.pcm_library.specs.{Looking.standing_of, declared.keeper.Kept.Kept, declared.looking.Standing.Standing}
 use Rattle.pcm_c.specs.{Calls.Hands, declared.backlog.ModuleBacklog.ModuleBacklog, declared.held.Held.Held, declared.held.Held.TheVariants.{Narrow, Wide}}
-use Rattle.pcm_c.specs.{declared.outcome.ModuleOutcome.ModuleOutcome, declared.wear.ModuleWear.ModuleWear}
+use Rattle.pcm_c.specs.{declared.line.ModuleLine.ModuleLine, declared.outcome.ModuleOutcome.ModuleOutcome, declared.wear.ModuleWear.ModuleWear}
 
 -- the number of a kind of outcomes
 abbrev pub kind_of : {n : ℕ} → Outcome n → ℕ
@@ -97,3 +97,40 @@ wear_at (Wide held) = told_wear (wear_of 8 (seeded_state held.array))
 abbrev pub TellsWearAt : Option Held → ModuleWear → Type 0
 TellsWearAt (Some held) told = told ≡ wear_at held
 TellsWearAt None told = ⊥
+
+-- no cell is stuck, and none has changed
+abbrev pub no_wear : CellWear
+no_wear = record { stuck = 0; changes = 0 }
+
+-- where a line stands, and how worn it is there, is told so: what isn't counted as none
+abbrev pub told_line : Standing → ModuleLine
+told_line standing =
+    let cells = unwrap_or standing.wear.cells no_wear in
+    let energy = unwrap_or standing.wear.energy no_energy in
+    record {
+      pulses = standing.wear.pulses;
+      senses = energy.senses;
+      set = energy.set;
+      reset = energy.reset;
+      place = standing.place;
+      stuck = cells.stuck;
+      changes = cells.changes;
+    }
+
+-- so it is told of a line of a module
+abbrev pub TellsLine : (line : ℕ) → Held → ModuleLine → Type 0
+TellsLine line (Narrow held) told = told ≡ told_line (standing_of held.module_ (seeded_state held.array) (seeded_changes held.array) line)
+TellsLine line (Wide held) told = told ≡ told_line (standing_of held.module_ (seeded_state held.array) (seeded_changes held.array) line)
+
+abbrev pub TellsLineAt : (line : ℕ) → Option Held → ModuleLine → Type 0
+TellsLineAt line (Some held) told = TellsLine line held told
+TellsLineAt line None told = ⊥
+
+-- these are the bytes that stand for a line of a module now
+abbrev pub newest_at : (line : ℕ) → Held → List ℕ
+newest_at line (Narrow held) = stand_now held.module_ (seeded_state held.array) line
+newest_at line (Wide held) = stand_now held.module_ (seeded_state held.array) line
+
+abbrev pub TellsNewestAt : (line : ℕ) → Option Held → List ℕ → Type 0
+TellsNewestAt line (Some held) told = told ≡ newest_at line held
+TellsNewestAt line None told = ⊥

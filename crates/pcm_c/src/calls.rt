@@ -2,15 +2,18 @@
 ghost use Rattle.std.specs.Prelude.{◌≡◌, ◌≢◌, ◌≤◌, None, Some, length, replicate};
 ghost use Rattle.masked_bytes.specs.Masked.{laid};
 ghost use Rattle.trace_reader.specs.declared.event.EventOp.TheVariants.{Cut, Mask, Read, Write};
-ghost use Rattle.trace_stream.specs.declared.asked.Asked.TheVariants.{Happens, Settle, Until as Waits};
+ghost use Rattle.trace_stream.specs.declared.asked.Asked.TheVariants.{Happens, Settle, Until as Waits, UntilAny as Awaits};
+ghost use Rattle.pcm_module.specs.State.{stand_now};
+ghost use Rattle.pcm_library.specs.Looking.{standing_of};
 ghost use Rattle.pcm_library.specs.declared.keeper.Kept.{Kept};
-ghost use Rattle.pcm_c.specs.Answers.{RowTold, finish_status, next_status, refusal_of_cut, refusal_of_masked, refusal_of_read, refusal_of_write, settle_status, status_number, wait_status};
+ghost use Rattle.pcm_c.specs.Answers.{RowTold, finish_status, line_status, newest_status, next_status, refusal_of_cut, refusal_of_masked, refusal_of_read, refusal_of_write, settle_status, status_number, wait_status};
 ghost use Rattle.pcm_c.specs.Calls.{Finishes, Hands, Takes};
-ghost use Rattle.pcm_c.specs.Telling.{IsTold};
+ghost use Rattle.pcm_c.specs.Telling.{IsTold, told_line};
 
+use crate::line::{ModuleLine, tell_line};
 use crate::outcome::{ModuleOutcome, tell};
 use crate::status::{Status, told};
-use cell_rows::CellArray;
+use cell_rows::{CellArray, TellsCells};
 use pcm_library::Session;
 
 /// A read of a line comes.
@@ -147,6 +150,65 @@ pub(crate) fn settle_until<
     ensures rest { result ≢ Status.Done → session.new ≡ session.old }
 {
     told(session.settle_until(row, limit))
+}
+
+/// Every bank goes on until any row has its outcome that had none, at most to a tick.
+pub(crate) fn settle_any<
+    const B: usize,
+    const M: usize,
+    const E: usize,
+    A: CellArray<B, M> + Drop,
+>(session: &mut Session<B, M, E, A>, limit: u64) -> Status
+    ensures answer { result ≡ settle_status session.old limit }
+    ensures done { result ≡ Status.Done → Takes A.state (Awaits (record {
+      limit = limit;
+      reached = session.new.module_.tick;
+    })) session.old session.new }
+    ensures rest { result ≢ Status.Done → session.new ≡ session.old }
+{
+    told(session.settle_any(limit))
+}
+
+/// Where a line stands, and how worn it is there, is told to C.
+pub(crate) fn line<const B: usize, const M: usize, const E: usize, A: TellsCells<B, M> + Drop>(
+    session: &Session<B, M, E, A>,
+    line: u32,
+    out: &mut ModuleLine,
+) -> Status
+    ensures answer { result ≡ line_status session.now line }
+    ensures done { result ≡ Status.Done → out.new ≡ told_line (standing_of session.now.module_
+        (A.state session.now.array) (A.changes session.now.array) line) }
+    ensures out { result ≢ Status.Done → out.new ≡ out.old }
+{
+    match session.standing(line) {
+        Some(standing) => {
+            tell_line(&standing, out);
+            Status::Done
+        }
+        None => Status::NoLine,
+    }
+}
+
+/// A line's newest bytes are told to C.
+pub(crate) fn newest<const B: usize, const M: usize, const E: usize, A: TellsCells<B, M> + Drop>(
+    session: &Session<B, M, E, A>,
+    line: u32,
+    bytes: &mut [u8],
+) -> Status
+    requires few { B ≤ 128 }
+    ensures answer { result ≡ newest_status session.now line (length bytes.old) }
+    ensures done { result ≡ Status.Done
+        → bytes.new ≡ stand_now session.now.module_ (A.state session.now.array) line }
+    ensures out { result ≢ Status.Done → bytes.new ≡ bytes.old }
+{
+    let Some(newest) = session.newest(line) else {
+        return Status::NoLine;
+    };
+    if bytes.len() != B {
+        return Status::Size;
+    }
+    bytes.copy_from_slice(&newest);
+    Status::Done
 }
 
 /// No more rows come: the banks drain.

@@ -4,14 +4,17 @@ ghost use Rattle.masked_bytes.specs.Masked.{laid};
 ghost use Rattle.cell_rows.specs.Device.{IsWear};
 ghost use Rattle.pcm_cells.specs.Seeded.{seeded_state};
 ghost use Rattle.trace_reader.specs.declared.event.EventOp.TheVariants.{Cut, Mask, Read, Write};
-ghost use Rattle.trace_stream.specs.declared.asked.Asked.TheVariants.{Happens, Settle, Until as Waits};
-ghost use Rattle.pcm_c.specs.Answers.{RowToldOf, bank_status, finish_status, next_status, refusal_of_cut, refusal_of_masked, refusal_of_read, refusal_of_write, settle_status, status_at, status_number, wait_status};
+ghost use Rattle.trace_stream.specs.declared.asked.Asked.TheVariants.{Happens, Settle, Until as Waits, UntilAny as Awaits};
+ghost use Rattle.pcm_c.specs.Answers.{RowToldOf, bank_status, finish_status, line_status, newest_status, next_status, refusal_of_cut, refusal_of_masked, refusal_of_read, refusal_of_write, settle_status, status_at, status_number, wait_status};
 ghost use Rattle.pcm_c.specs.Calls.{Begins, FinishesRows, TakesRow, lines_at, rows_at, tick_at, waiting_at};
 ghost use Rattle.pcm_c.specs.Opening.{BeginsWith};
-ghost use Rattle.pcm_c.specs.Telling.{HandsNothing, HandsTold, LacksBank, TellsBank, wear_at};
+ghost use Rattle.pcm_c.specs.Telling.{HandsNothing, HandsTold, LacksBank, TellsBank, TellsLine, newest_at, wear_at};
 
 use crate::backlog::{ModuleBacklog, tell};
-use crate::calls::{cut, finish, next, read, settle, settle_until, write, write_masked};
+use crate::calls::{
+    cut, finish, line, newest, next, read, settle, settle_any, settle_until, write, write_masked,
+};
+use crate::line::ModuleLine;
 use crate::options::Chosen;
 use crate::outcome::ModuleOutcome;
 use crate::status::Status;
@@ -167,6 +170,21 @@ impl Held {
         }
     }
 
+    /// Every bank goes on until any row has its outcome that had none, at most to a tick.
+    pub(crate) fn settle_any(&mut self, limit: u64) -> Status
+        ensures answer { result ≡ status_at (λ n m e s. settle_status s limit) self.old }
+        ensures done { result ≡ Status.Done → TakesRow (λ n. Awaits (record {
+          limit = limit;
+          reached = tick_at self.new;
+        })) self.old self.new }
+        ensures rest { result ≢ Status.Done → self.new ≡ self.old }
+    {
+        match self {
+            Held::Narrow(session) => settle_any(session, limit),
+            Held::Wide(session) => settle_any(session, limit),
+        }
+    }
+
     /// No more rows come: the banks drain.
     pub(crate) fn finish(&mut self) -> Status
         ensures answer { result ≡ status_at (λ n m e s. finish_status s) self.old }
@@ -209,6 +227,31 @@ impl Held {
                 Status::Done
             }
             None => Status::NoBank,
+        }
+    }
+
+    /// Where a line stands, and how worn it is there, is told to C.
+    pub(crate) fn line(&self, at: u32, out: &mut ModuleLine) -> Status
+        ensures answer { result ≡ status_at (λ n m e s. line_status s at) self.now }
+        ensures done { result ≡ Status.Done → TellsLine at self.now out.new }
+        ensures out { result ≢ Status.Done → out.new ≡ out.old }
+    {
+        match self {
+            Held::Narrow(session) => line(session, at, out),
+            Held::Wide(session) => line(session, at, out),
+        }
+    }
+
+    /// A line's newest bytes are told to C.
+    pub(crate) fn newest(&self, line: u32, bytes: &mut [u8]) -> Status
+        ensures answer { result
+            ≡ status_at (λ n m e s. newest_status s line (length bytes.old)) self.now }
+        ensures done { result ≡ Status.Done → bytes.new ≡ newest_at line self.now }
+        ensures out { result ≢ Status.Done → bytes.new ≡ bytes.old }
+    {
+        match self {
+            Held::Narrow(session) => newest(session, line, bytes),
+            Held::Wide(session) => newest(session, line, bytes),
         }
     }
 

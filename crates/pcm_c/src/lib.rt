@@ -5,17 +5,18 @@ ghost use Rattle.std.specs.Prelude.{◌≡◌, ◌≢◌, IfErr, IfOk, None, Som
 ghost use Rattle.masked_bytes.specs.Masked.{laid};
 ghost use Rattle.cell_rows.specs.Device.{IsWear};
 ghost use Rattle.trace_reader.specs.declared.event.EventOp.TheVariants.{Cut, Mask, Read, Write};
-ghost use Rattle.trace_stream.specs.declared.asked.Asked.TheVariants.{Happens, Settle, Until as Waits};
-ghost use Rattle.pcm_c.specs.Answers.{RowToldAt, bank_status, finish_status, next_status, number_at, refusal_of_cut, refusal_of_masked, refusal_of_read, refusal_of_write, settle_status, wait_status};
+ghost use Rattle.trace_stream.specs.declared.asked.Asked.TheVariants.{Happens, Settle, Until as Waits, UntilAny as Awaits};
+ghost use Rattle.pcm_c.specs.Answers.{RowToldAt, bank_status, finish_status, line_status, newest_status, next_status, number_at, refusal_of_cut, refusal_of_masked, refusal_of_read, refusal_of_write, settle_status, wait_status};
 ghost use Rattle.pcm_c.specs.Calls.{FinishesAt, TakesRowAt, lines_at, number_of, rows_at, tick_at, waiting_at};
-ghost use Rattle.pcm_c.specs.Opening.{AreRight, BeginsWith, OpensAt};
-ghost use Rattle.pcm_c.specs.Telling.{HandsAt, HandsNothingAt, TellsBankAt, TellsWearAt};
+ghost use Rattle.pcm_c.specs.Opening.{AreRight, BeginsWith, OpenToldAt, OpensAt, bad_option, number_of_bad, open_refusal};
+ghost use Rattle.pcm_c.specs.Telling.{HandsAt, HandsNothingAt, TellsBankAt, TellsLineAt, TellsNewestAt, TellsWearAt};
 
 mod backlog;
 mod calls;
 mod handle;
 mod held;
 mod lend;
+mod line;
 mod loose;
 mod options;
 mod outcome;
@@ -28,6 +29,7 @@ use crate::status::Status;
 pub use backlog::ModuleBacklog;
 pub use handle::Handle;
 pub use held::{Held, NarrowSession, WideSession};
+pub use line::ModuleLine;
 pub use options::ModuleOptions;
 pub use outcome::ModuleOutcome;
 pub use pcm::PcmModule;
@@ -37,7 +39,8 @@ pub use wear::ModuleWear;
 /// The number of an option that is out of range, or 0 where none is.
 #[unsafe(no_mangle)]
 pub extern "C" fn pcm_module_bad_option(options: &ModuleOptions) -> u32
-    ensures { result ≡ 0 → AreRight options.now }
+    ensures number { result ≡ number_of_bad (bad_option options.now) }
+    ensures right { result ≡ 0 → AreRight options.now }
 {
     match choose(options) {
         Ok(_) => 0,
@@ -48,7 +51,9 @@ pub extern "C" fn pcm_module_bad_option(options: &ModuleOptions) -> u32
 // The module that these options ask for.
 fn opened(alloc: Global, options: &ModuleOptions) -> Result<Box<Held>, Status>
     ensures held { IfOk result (λ held. OpensAt options.now (Some held.value)) }
+    ensures right { IfOk result (λ held. bad_option options.now ≡ None) }
     ensures refused { IfErr result (λ status. status ≢ Status.Done) }
+    ensures why { IfErr result (λ status. status ≡ open_refusal (bad_option options.now)) }
 {
     match choose(options) {
         Ok(chosen) => boxed(alloc, &chosen),
@@ -61,7 +66,7 @@ fn boxed(alloc: Global, chosen: &Chosen) -> Result<Box<Held>, Status>
     requires { IsWear chosen.now.wear }
     ensures held { IfOk result (λ held.
         BeginsWith chosen.now.is_wide chosen.now.shape chosen.now.wear held.value) }
-    ensures refused { IfErr result (λ status. status ≢ Status.Done) }
+    ensures refused { IfErr result (λ status. status ≡ Status.NoMemory) }
 {
     match Held::new(alloc, chosen) {
         Ok(held) => match Box::new(alloc, held) {
@@ -79,6 +84,7 @@ pub extern "C" fn pcm_module_open(
     pcm: &mut PcmModule,
     options: &ModuleOptions,
 ) -> u32
+    ensures answer { OpenToldAt options.now pcm.old.value result }
     ensures done { result ≡ 0 → OpensAt options.now pcm.new.value }
     ensures rest { result ≢ 0 → pcm.new ≡ pcm.old }
 {
@@ -199,6 +205,22 @@ pub extern "C" fn pcm_module_settle_until(pcm: &mut PcmModule, row: u32, limit: 
     pcm.handle.held().settle_until(row, limit).number()
 }
 
+/// Every bank goes on until any row has its outcome that had none, at most to a tick.
+#[unsafe(no_mangle)]
+pub extern "C" fn pcm_module_settle_any(pcm: &mut PcmModule, limit: u64) -> u32
+    ensures answer { result ≡ number_at (λ n m e s. settle_status s limit) pcm.old.value }
+    ensures done { result ≡ 0 → TakesRowAt (λ n. Awaits (record {
+      limit = limit;
+      reached = number_of tick_at pcm.new.value;
+    })) pcm.old.value pcm.new.value }
+    ensures rest { result ≢ 0 → pcm.new ≡ pcm.old }
+{
+    if !pcm.is_open {
+        return Status::Closed.number();
+    }
+    pcm.handle.held().settle_any(limit).number()
+}
+
 /// No more rows come: the banks drain.
 #[unsafe(no_mangle)]
 pub extern "C" fn pcm_module_finish(pcm: &mut PcmModule) -> u32
@@ -238,6 +260,35 @@ pub extern "C" fn pcm_module_bank(pcm: &mut PcmModule, bank: u32, out: &mut Modu
         return Status::Closed.number();
     }
     pcm.handle.held().bank(bank, out).number()
+}
+
+/// Where a line stands, and how worn its array line is.
+#[unsafe(no_mangle)]
+pub extern "C" fn pcm_module_line(pcm: &mut PcmModule, line: u32, out: &mut ModuleLine) -> u32
+    ensures answer { result ≡ number_at (λ n m e s. line_status s line) pcm.old.value }
+    ensures done { result ≡ 0 → TellsLineAt line pcm.old.value out.new }
+    ensures rest { pcm.new ≡ pcm.old }
+    ensures out { result ≢ 0 → out.new ≡ out.old }
+{
+    if !pcm.is_open {
+        return Status::Closed.number();
+    }
+    pcm.handle.held().line(line, out).number()
+}
+
+/// A line's newest bytes, as many as a line has. Nothing is sensed for them.
+#[unsafe(no_mangle)]
+pub extern "C" fn pcm_module_newest(pcm: &mut PcmModule, line: u32, bytes: &mut [u8]) -> u32
+    ensures answer { result
+        ≡ number_at (λ n m e s. newest_status s line (length bytes.old)) pcm.old.value }
+    ensures done { result ≡ 0 → TellsNewestAt line pcm.old.value bytes.new }
+    ensures rest { pcm.new ≡ pcm.old }
+    ensures out { result ≢ 0 → bytes.new ≡ bytes.old }
+{
+    if !pcm.is_open {
+        return Status::Closed.number();
+    }
+    pcm.handle.held().newest(line, bytes).number()
 }
 
 /// How worn the module is: a walk over its array lines.

@@ -1,7 +1,7 @@
 // What a module is to be, as C asks for it.
-ghost use Rattle.std.specs.Prelude.{◌≡◌, ◌≢◌, IfOk, IfSome, if◌then◌else◌};
+ghost use Rattle.std.specs.Prelude.{◌≡◌, IfOk, IfSome, None, Option, Some, if◌then◌else◌};
 ghost use Rattle.cell_rows.specs.Device.{IsWear};
-ghost use Rattle.pcm_c.specs.Opening.{IsChosen, home_of, policy_of, wear_of};
+ghost use Rattle.pcm_c.specs.Opening.{IsChosen, bad_in, bad_option, bad_wear, home_of, option_number, option_of, policy_of, wear_of, width_of};
 
 use bank_shape::{Home, Policy};
 use cell_rows::Wear;
@@ -70,7 +70,9 @@ pub(crate) enum BadOption {
 
 impl BadOption {
     // The option that sets a size.
-    fn of(field: Field) -> BadOption {
+    fn of(field: Field) -> BadOption
+        ensures { result ≡ option_of field }
+    {
         match field {
             Field::Banks => BadOption::Banks,
             Field::Regions => BadOption::Regions,
@@ -87,7 +89,7 @@ impl BadOption {
 
     /// Its number in C.
     pub(crate) fn number(self) -> u32
-        ensures { result ≢ 0 }
+        ensures { result ≡ option_number self }
     {
         match self {
             BadOption::Size => 1,
@@ -136,7 +138,8 @@ fn home(number: u32) -> Option<Home>
 
 // How cells wear.
 fn wear(options: &ModuleOptions) -> Result<Wear, BadOption>
-    ensures { IfOk result (λ wear. (wear ≡ wear_of options.now) × IsWear wear) }
+    ensures right { IfOk result (λ wear. (wear ≡ wear_of options.now) × IsWear wear) }
+    ensures exact { bad_in result ≡ bad_wear options.now }
 {
     if options.misses > 7 {
         return Err(BadOption::Misses);
@@ -157,7 +160,8 @@ fn wear(options: &ModuleOptions) -> Result<Wear, BadOption>
 
 // Whether lines have 128 bytes.
 fn is_wide(line: u32) -> Option<bool>
-    ensures { IfSome result (λ is_wide. line ≡ (if is_wide then 128 else 64)) }
+    ensures exact { result ≡ width_of line }
+    ensures line { IfSome result (λ is_wide. line ≡ (if is_wide then 128 else 64)) }
 {
     match line {
         64 => Some(false),
@@ -168,7 +172,8 @@ fn is_wide(line: u32) -> Option<bool>
 
 /// What the options choose, or one that is out of range.
 pub(crate) fn choose(options: &ModuleOptions) -> Result<Chosen, BadOption>
-    ensures { IfOk result (λ chosen. IsChosen options.now chosen) }
+    ensures right { IfOk result (λ chosen. IsChosen options.now chosen) }
+    ensures exact { bad_in result ≡ bad_option options.now }
 {
     if options.size != SIZE {
         return Err(BadOption::Size);

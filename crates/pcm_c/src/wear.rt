@@ -26,8 +26,8 @@ pub struct ModuleWear {
     pub reset: u64,
 }
 
-// What was counted of the energy; where nothing is counted, none.
-fn counted(energy: Option<LineEnergy>) -> LineEnergy
+/// What was counted of the energy; where nothing is counted, none.
+pub(crate) fn counted(energy: Option<LineEnergy>) -> LineEnergy
     ensures { result ≡ unwrap_or energy no_energy }
 {
     match energy {

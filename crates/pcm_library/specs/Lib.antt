@@ -1,3 +1,4 @@
 pub mod Keeping
 pub mod Serving
 pub mod Answers
+pub mod Looking

@@ -10,6 +10,6 @@ mod session;
 mod waiting;
 
 pub use keeper::{Keeper, Kept};
-pub use looking::LineWear;
+pub use looking::{LineWear, Standing};
 pub use masking::masked;
 pub use session::{Answer, Session};

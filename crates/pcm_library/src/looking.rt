@@ -1,10 +1,10 @@
 // What another program may look at: nothing changes by it, and no array line is sensed.
 ghost use Rattle.std.specs.Prelude.{◌≡◌, ◌*◌, ◌<◌, None, Some, if◌then◌else◌, length, nat_lt};
-ghost use Rattle.cell_rows.specs.Told.{wear_told};
 ghost use Rattle.ecp_line.specs.Layout.{IsLayout};
 ghost use Rattle.module_shape.specs.Addresses.{array_lines_of, module_of};
 ghost use Rattle.module_shape.specs.Limits.{total_of};
-ghost use Rattle.pcm_module.specs.State.{bank_at, stands_in};
+ghost use Rattle.pcm_module.specs.State.{bank_at, stand_now, stands_in};
+ghost use Rattle.pcm_library.specs.Looking.{standing_of, wear_of_line};
 ghost use Rattle.row_stream.specs.Answering.{backlog_of, mark_of};
 ghost use Rattle.wear_totals.specs.Wear.{wear_of};
 
@@ -24,6 +24,14 @@ pub struct LineWear {
     pub cells: Option<CellWear>,
     /// How often it was sensed, and how many of its cells were driven, where the array counts it.
     pub energy: Option<LineEnergy>,
+}
+
+/// Where a line stands in the array, and how worn that array line is.
+#[derive(Clone, Copy, PartialEq, Eq)]
+pub struct Standing {
+    /// The array line.
+    pub place: u32,
+    pub wear: LineWear,
 }
 
 impl<const B: usize, const M: usize, const E: usize, A: CellArray<B, M> + Drop> Session<
@@ -99,20 +107,55 @@ impl<const B: usize, const M: usize, const E: usize, A: TellsCells<B, M> + Drop>
 > {
     /// How worn a line of the array is, where there is such a line.
     pub fn line_wear(&self, line: u32) -> Option<LineWear>
-        ensures { result ≡ (if nat_lt line (A.state self.now.array).lines then Some (record {
-          pulses = ((A.state self.now.array).line line).pulses;
-          cells = wear_told ((A.state self.now.array).line line) (A.changes self.now.array line);
-          energy = (A.state self.now.array).energy line;
-        }) else None) }
+        ensures { result ≡ (if nat_lt line (A.state self.now.array).lines
+            then Some (wear_of_line (A.state self.now.array) (A.changes self.now.array) line)
+            else None) }
     {
         if line >= self.array.lines() {
             return None;
         }
-        Some(LineWear {
+        Some(self.wear_at(line))
+    }
+
+    // How worn a line of the array is.
+    fn wear_at(&self, line: u32) -> LineWear
+        requires exists { line < (A.state self.now.array).lines }
+        ensures { result ≡ wear_of_line (A.state self.now.array) (A.changes self.now.array) line }
+    {
+        LineWear {
             pulses: self.array.pulses(line),
             cells: self.array.cell_wear(line),
             energy: self.array.energy(line),
+        }
+    }
+
+    /// Where a line stands now, and how worn its array line is, where there is such a line.
+    pub fn standing(&self, line: u32) -> Option<Standing>
+        ensures { result ≡ (if nat_lt line (total_of self.now.module_.shape)
+            then Some (standing_of self.now.module_ (A.state self.now.array)
+            (A.changes self.now.array) line) else None) }
+    {
+        if line >= self.lines() {
+            return None;
+        }
+        // Its sizes make known that each line's bank is one of the module's.
+        let _ = self.module.shape();
+        let place = self.module.translate(line);
+        Some(Standing {
+            place,
+            wear: self.wear_at(place),
         })
+    }
+
+    /// A line's newest bytes, those that the module accepted last, wherever they are, where there is such a line. No bank goes on.
+    pub fn newest(&self, line: u32) -> Option<[u8; B]>
+        ensures { result ≡ (if nat_lt line (total_of self.now.module_.shape)
+            then Some (stand_now self.now.module_ (A.state self.now.array) line) else None) }
+    {
+        if line >= self.lines() {
+            return None;
+        }
+        Some(self.module.newest(&self.array, line))
     }
 }
 

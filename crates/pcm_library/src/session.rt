@@ -8,7 +8,7 @@ ghost use Rattle.trace_reader.specs.Rows.{latest_tick};
 ghost use Rattle.module_shape.specs.declared.raw.RawShape.{RawShape};
 ghost use Rattle.module_shape.specs.Addresses.{array_lines_of, module_of};
 ghost use Rattle.module_shape.specs.Limits.{IsShape, total_of};
-ghost use Rattle.trace_stream.specs.declared.asked.Asked.TheVariants.{Happens, Settle, Until as Waits};
+ghost use Rattle.trace_stream.specs.declared.asked.Asked.TheVariants.{Happens, Settle, Until as Waits, UntilAny as Awaits};
 ghost use Rattle.row_stream.specs.declared.stop.Behind.TheVariants.{Off};
 ghost use Rattle.row_stream.specs.Asking.{behind_of, cut_at_end, cut_behind, stays_off, with_cut};
 ghost use Rattle.row_stream.specs.Serving.{IsServing, ServesOn, told_before, told_so_far};
@@ -19,7 +19,7 @@ ghost use Rattle.pcm_library.specs.Serving.{HasEndedRows, HasServedRows, most_op
 
 use crate::keeper::{Keeper, Kept};
 use crate::serving::{drain, serve_event, serve_settle, stay_off};
-use crate::waiting::serve_until;
+use crate::waiting::{serve_until, serve_until_any};
 use cell_rows::{CellArray, Wear};
 use ghost_list::GhostList;
 use module_shape::Shape;
@@ -28,7 +28,7 @@ use row_stream::{Behind, behind_asked};
 use std::alloc::{AllocError, Global};
 use std::marker::Model;
 use trace_reader::{Event, EventOp};
-use trace_stream::{Asked, Until};
+use trace_stream::{Asked, Until, UntilAny};
 
 /// The last tick at which a row may come.
 const LAST_TICK: u64 = 1_099_511_627_776;
@@ -306,6 +306,57 @@ impl<const B: usize, const M: usize, const E: usize, A: CellArray<B, M> + Drop> 
         };
         self.behind = Behind::Going;
         self.asked = self.asked.and(&Asked::Until(waited));
+    }
+
+    /// Every bank goes on until any row has its outcome that had none, at most to a tick: `tick` tells how far they came.
+    pub fn settle_any(&mut self, limit: u64) -> Answer
+        ensures answer { result ≡ answer_by (refusal_of_tick self.old limit) }
+        ensures asked { result ≡ Answer.Done → self.new.asked ≡ Awaits (record {
+          limit = limit;
+          reached = self.new.module_.tick;
+        }) ∷ self.old.asked }
+        ensures serves { result ≡ Answer.Done → ServesOn (λ before. Awaits (record {
+          limit = limit;
+          reached = self.new.module_.tick;
+        })) self.old.module_ self.new.module_ (A.state self.old.array) (A.state self.new.array)
+            self.old.kept self.new.kept }
+        ensures taken { self.new.kept.sink.taken ≡ self.old.kept.sink.taken }
+        ensures rest { result ≢ Answer.Done → self.new ≡ self.old }
+    {
+        match self.may_come(limit) {
+            None => {
+                self.wait_for_any(limit);
+                Answer::Done
+            }
+            Some(refused) => refused,
+        }
+    }
+
+    // Every bank goes on until any row has its outcome, at most to a tick to which the module may come.
+    fn wait_for_any(&mut self, limit: u64)
+        requires going { self.old.module_.finished ≡ false }
+        requires rises { self.old.module_.tick ≤ limit }
+        requires in_time { limit ≤ latest_tick }
+        ensures asked { self.new.asked ≡ Awaits (record {
+          limit = limit;
+          reached = self.new.module_.tick;
+        }) ∷ self.old.asked }
+        ensures serves { ServesOn (λ before. Awaits (record {
+          limit = limit;
+          reached = self.new.module_.tick;
+        })) self.old.module_ self.new.module_ (A.state self.old.array) (A.state self.new.array)
+            self.old.kept self.new.kept }
+        ensures taken { self.new.kept.sink.taken ≡ self.old.kept.sink.taken }
+    {
+        let until = UntilAny {
+            limit,
+            reached: limit,
+        };
+        serve_until_any(&mut self.module, &mut self.array, &until, &mut self.kept);
+        let reached = self.module.tick();
+        let waited = UntilAny { limit, reached };
+        self.behind = Behind::Going;
+        self.asked = self.asked.and(&Asked::UntilAny(waited));
     }
 
     /// No more rows come: each bank is drained.

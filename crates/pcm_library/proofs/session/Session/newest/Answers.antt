@@ -1,0 +1,13 @@
+use Rattle.std.proofs.Common.{arith}
+use Rattle.ghost_list.specs.Items.{newest}
+use Rattle.pcm_library.proofs.Lines.{lines-size}
+use Rattle.pcm_library.proofs.session.Session.newest.Goals as goal
+
+pub newest-requires : goal.newest-requires
+newest-requires g c =
+    let inside = c.self.inside in
+    let size =
+    lines-size inside.module (g.A.CellArray.state inside.array) inside.kept (newest inside.asked) inside.off inside.finished c.self.invariant.serving c.self.invariant.ended in (
+      omega (arith, c.self.invariant.layout.shape.1),
+      (c.self.invariant.layout, omega (arith, c.if-line-lines.false, c.lines.ensures), size),
+    )
