@@ -16,10 +16,10 @@
    wait until they are taken: nothing is called back. Memory comes from malloc: as the module is opened, for all that it will ever hold, but for
    outcomes that wait while more rows come. Each call that may be refused answers a status; but for PCM_MODULE_OK it has changed nothing.
 
-   What a call does to the module, and which answer comes when, is proved, for all arguments; of pcm_module_open which refusal is tested. What C can
-   break is what C always can: a pointer that isn't valid (so NULL), or not to as many bytes as are said; a struct pcm_module that is neither all zero
-   nor as the last call left it, so one that was written to, or a copy of one of which the other was closed; two threads in one module at once (two
-   modules share nothing). All else is looked at as it comes, and answered.
+   What a call does to the module, and which answer comes when, is proved, for all arguments. What C can break is what C always can: a pointer that
+   isn't valid (so NULL), or not to as many bytes as are said; a struct pcm_module that is neither all zero nor as the last call left it, so one that
+   was written to, or a copy of one of which the other was closed; two threads in one module at once (two modules share nothing). All else is looked
+   at as it comes, and answered.
 
    Names begin with pcm_module, so that pcm_stream.h, whose module is another process, may stand beside it. */
 #ifndef PCM_H
@@ -133,7 +133,26 @@ struct pcm_module_wear {
     uint64_t reset;    /* and to 0 */
 };
 
-/* The first option found out of range, or PCM_MODULE_ALL_RIGHT. The options are only read. */
+/* Where a line of a module stands in the array now, and how worn that array line is; each count stays at the greatest of its type. */
+struct pcm_module_standing {
+    uint64_t pulses;  /* of the array line; a torn one counts */
+    uint64_t senses;  /* how often it was sensed */
+    uint64_t set;     /* how often a pulse drove a cell of it to 1 */
+    uint64_t reset;   /* and to 0 */
+    uint32_t place;   /* the array line, as an outcome tells it */
+    uint32_t stuck;   /* how many of its cells are stuck */
+    uint32_t changes; /* the most changes that one of its cells has spent */
+};
+
+/* The word of a kind of outcomes, as a stream tells it; NULL of a number that is none. */
+static inline const char *pcm_module_word(uint32_t kind)
+{
+    static const char *const words[] = {"stored", "merged", "queued", "full", "worn", "read", "forwarded", "busy", "lost", "cut"};
+    return kind <= PCM_MODULE_CUT ? words[kind] : NULL;
+}
+
+/* The first option found out of range, or PCM_MODULE_ALL_RIGHT: the size of the options, policy, registers, line, misses, lo, hi, and then the others
+   in their order, with PCM_MODULE_TOTAL behind the lines. The options are only read. */
 uint32_t pcm_module_bad_option(const struct pcm_module_options *options);
 /* Opens a module that is closed. What it holds is freed by pcm_module_close alone. PCM_MODULE_OPEN, PCM_MODULE_OPTIONS, PCM_MODULE_NO_MEMORY. */
 uint32_t pcm_module_open(struct pcm_module *pcm, const struct pcm_module_options *options);
@@ -154,6 +173,8 @@ uint32_t pcm_module_settle(struct pcm_module *pcm, uint64_t tick);
 /* Every bank goes on only until a row has its outcome, from the tick that was reached, and to `limit` where it has none by then; pcm_module_tick tells
    how far. PCM_MODULE_NO_ROW, and as a settle. */
 uint32_t pcm_module_settle_until(struct pcm_module *pcm, uint32_t row, uint64_t limit);
+/* The same until any row has its outcome that had none. As a settle. */
+uint32_t pcm_module_settle_any(struct pcm_module *pcm, uint64_t limit);
 /* No more rows come: the banks drain. PCM_MODULE_CLOSED, PCM_MODULE_ENDED. */
 uint32_t pcm_module_finish(struct pcm_module *pcm);
 /* Takes the outcome that was told first of those that wait. PCM_MODULE_EMPTY where none waits, PCM_MODULE_CLOSED; the outcome stays as it is then. */
@@ -168,6 +189,11 @@ static inline size_t pcm_module_take(struct pcm_module *pcm, struct pcm_module_o
 }
 /* What waits in a bank, from 0. PCM_MODULE_NO_BANK, PCM_MODULE_CLOSED. */
 uint32_t pcm_module_bank(struct pcm_module *pcm, uint32_t bank, struct pcm_module_backlog *told);
+/* Where a line stands at the tick that was reached, and how worn it is there; behind pcm_module_finish too. PCM_MODULE_NO_LINE, PCM_MODULE_CLOSED. */
+uint32_t pcm_module_line(struct pcm_module *pcm, uint32_t line, struct pcm_module_standing *told);
+/* A line's newest bytes at that tick, those that the module accepted last, wherever they are, are put into `bytes`, as many as a line has. It is a
+   debugger's look: nothing is sensed for it. PCM_MODULE_NO_LINE, PCM_MODULE_SIZE, PCM_MODULE_CLOSED; the bytes stay as they are then. */
+uint32_t pcm_module_newest(struct pcm_module *pcm, uint32_t line, uint8_t *bytes, size_t size);
 /* How worn the module is at the tick that was reached, behind pcm_module_finish too. It goes over all array lines: of a large module it takes time.
    PCM_MODULE_CLOSED. */
 uint32_t pcm_module_look(struct pcm_module *pcm, struct pcm_module_wear *told);

@@ -24,9 +24,9 @@
    the library (pcm.h): no program is started, and the words in front of the first option are passed over. Functions and answers are the same, but:
    a row is served as it is handed in, so what is wrong with it shows at once; options are those of a module, and of others only their defaults
    (`--end drain`, `--until end`, `--input source`), `--tell shape` and `--tell module`: any other shows as one that the program refuses;
-   pcm_peek and pcm_settle_any answer PCM_FAILED, with ENOTSUP, and so do copies (pcm_copy.h); pcm_next, which would wait for ever where no
-   outcome is to come, answers PCM_REFUSED; PCM_FULL comes
-   where PCM_MOST_SETTLES settles wait to be taken, and never else; memory is allocated; and nothing is left to send where pcm_close comes.
+   copies (pcm_copy.h) answer PCM_FAILED, with ENOTSUP; pcm_next, which would wait for ever where no outcome is to come, answers PCM_REFUSED;
+   PCM_FULL comes where PCM_MOST_SETTLES settles wait to be taken, and never else; memory is allocated; and nothing is left to send where
+   pcm_close comes.
 
    A struct pcm is the caller's: it holds two descriptors, a process, and two buffers (some 80 KiB together), and must not be moved while it is
    open. One that is all zero, as a static one is, counts as closed. It isn't to be used by two threads at once.

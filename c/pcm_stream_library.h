@@ -168,6 +168,10 @@ static inline uint32_t pcm__serve(struct pcm *pcm, const struct pcm__row *row)
         return pcm_module_cut(&pcm->module, row->tick);
     case 'U':
         return pcm_module_settle_until(&pcm->module, row->number, row->tick);
+    case 'A':
+        return pcm_module_settle_any(&pcm->module, row->tick);
+    case 'P':
+        return row->number < pcm_module_lines(&pcm->module) ? pcm_module_settle(&pcm->module, row->tick) : (uint32_t)PCM_MODULE_NO_LINE;
     default:
         return pcm_module_settle(&pcm->module, row->tick);
     }
@@ -183,10 +187,6 @@ static inline enum pcm_result pcm__put(struct pcm *pcm, const struct pcm__row *r
         return PCM_ENDED;
     if (pcm__settles(row->op) && pcm->settles == PCM_MOST_SETTLES)
         return PCM_FULL;
-    if (row->op == 'P' || pcm__is_any(row->op)) {
-        errno = ENOTSUP;
-        return PCM_FAILED;
-    }
     uint32_t status = pcm__serve(pcm, row);
     if (status == PCM_MODULE_NO_MEMORY) {
         pcm->ends_with = 7;
@@ -219,7 +219,7 @@ static inline void pcm__look(struct pcm *pcm, struct pcm_wear *wear)
     }
 }
 
-/* The module has settled; what waits in its banks, and how worn it is, is put where it is asked for. */
+/* The module has settled; what waits in its banks, how worn it is, and a line's newest bytes are put where they are asked for. */
 static inline void pcm__tell_settled(struct pcm *pcm, struct pcm_outcome *outcome, const struct pcm__asks *asks)
 {
     struct pcm_module_backlog told;
@@ -234,6 +234,8 @@ static inline void pcm__tell_settled(struct pcm *pcm, struct pcm_outcome *outcom
     }
     if (asks != NULL && asks->wear != NULL && pcm->settles == 0)
         pcm__look(pcm, asks->wear);
+    if (asks != NULL && asks->bytes != NULL && pcm->settles == 0)
+        pcm_module_newest(&pcm->module, asks->row, asks->bytes, pcm->told.line);
 }
 
 /* The next outcome. (None can come while nothing waits: where rows may come, that is refused.) */

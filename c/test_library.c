@@ -42,10 +42,14 @@ static void a_closed_module_answers(struct pcm_module *pcm)
     struct pcm_module_outcome outcome = {99, 98, 97, 96, 0, {95}};
     struct pcm_module_backlog bank = {9, 8, 7};
     struct pcm_module_wear wear = {9, 9, 9, 9, 9, 9, 9};
-    uint8_t bytes[64] = {0};
+    struct pcm_module_standing line = {9, 9, 9, 9, 9, 9, 9};
+    uint8_t bytes[64] = {6};
     check(pcm_module_write(pcm, 0, 0, bytes, 64) == PCM_MODULE_CLOSED && pcm_module_read(pcm, 0, 0) == PCM_MODULE_CLOSED, "closed: rows");
     check(pcm_module_cut(pcm, 0) == PCM_MODULE_CLOSED && pcm_module_settle(pcm, 0) == PCM_MODULE_CLOSED, "closed: a cut, a settle");
     check(pcm_module_settle_until(pcm, 1, 0) == PCM_MODULE_CLOSED && pcm_module_finish(pcm) == PCM_MODULE_CLOSED, "closed: the end");
+    check(pcm_module_settle_any(pcm, 0) == PCM_MODULE_CLOSED, "closed: no row is waited for");
+    check(pcm_module_line(pcm, 0, &line) == PCM_MODULE_CLOSED && line.place == 9, "closed: no line");
+    check(pcm_module_newest(pcm, 0, bytes, 64) == PCM_MODULE_CLOSED && bytes[0] == 6, "closed: no bytes");
     check(pcm_module_next(pcm, &outcome) == PCM_MODULE_CLOSED && outcome.kind == 99 && outcome.bytes[0] == 95, "closed: no outcome");
     check(pcm_module_bank(pcm, 0, &bank) == PCM_MODULE_CLOSED && bank.writes == 9, "closed: no bank");
     check(pcm_module_look(pcm, &wear) == PCM_MODULE_CLOSED && wear.pulses == 9, "closed: no wear");
@@ -93,9 +97,11 @@ static void what_cannot_come_is_refused_and_changes_nothing(void)
     check(pcm_module_rows(&pcm) == 0 && pcm_module_tick(&pcm) == 0 && pcm_module_waiting(&pcm) == 0, "nothing was taken");
     check(pcm_module_write(&pcm, 100, 3, bytes, 64) == PCM_MODULE_OK && pcm_module_read(&pcm, 100, 3) == PCM_MODULE_OK, "rows at one tick");
     check(pcm_module_cut(&pcm, 99) == PCM_MODULE_LATE && pcm_module_settle(&pcm, 99) == PCM_MODULE_LATE, "a tick that is past");
+    check(pcm_module_settle_any(&pcm, 99) == PCM_MODULE_LATE && pcm_module_settle_any(&pcm, last + 1) == PCM_MODULE_LATE, "nor for any row");
     check(pcm_module_settle_until(&pcm, 1, 99) == PCM_MODULE_LATE && pcm_module_rows(&pcm) == 2, "waiting to one that is past");
     check(pcm_module_settle(&pcm, last) == PCM_MODULE_OK && pcm_module_tick(&pcm) == last, "the last tick");
     check(pcm_module_finish(&pcm) == PCM_MODULE_OK && pcm_module_finish(&pcm) == PCM_MODULE_ENDED, "it ends once");
+    check(pcm_module_settle_any(&pcm, last) == PCM_MODULE_ENDED, "nothing is waited for behind the end");
     check(pcm_module_read(&pcm, last, 0) == PCM_MODULE_ENDED && pcm_module_settle(&pcm, last) == PCM_MODULE_ENDED, "no rows behind the end");
     check(pcm_module_waiting(&pcm) == 2, "outcomes are there still");
     pcm_module_close(&pcm);
@@ -138,6 +144,14 @@ static void options_out_of_range_are_told(void)
         check(pcm_module_bad_option(&changed) == tried[i].wrong, "an option that is out of range is told");
         check(pcm_module_open(&pcm, &changed) == PCM_MODULE_OPTIONS && !pcm.is_open, "and nothing is opened");
     }
+    struct pcm_module_options many = options;
+    many.banks = 3;
+    many.hi = 0;
+    check(pcm_module_bad_option(&many) == PCM_MODULE_HI, "of several the one that is looked at first");
+    many.registers = 2;
+    check(pcm_module_bad_option(&many) == PCM_MODULE_REGISTERS, "before wear the registers");
+    many.policy = 3;
+    check(pcm_module_bad_option(&many) == PCM_MODULE_POLICY, "and before them the policy");
 }
 
 /* Writes and reads of a module; what it tells is summed. */
@@ -237,6 +251,59 @@ static void wear_is_told(void)
     }
 }
 
+static void any_row_is_waited_for(void)
+{
+    struct pcm_module_options options = PCM_MODULE_DEFAULTS;
+    struct pcm_module pcm = opened(&options);
+    struct pcm_module_outcome outcome;
+    uint8_t bytes[64] = {1};
+    check(pcm_module_write(&pcm, 0, 0, bytes, 64) == PCM_MODULE_OK && pcm_module_settle_any(&pcm, 14) == PCM_MODULE_OK, "a write");
+    check(pcm_module_tick(&pcm) == 14 && pcm_module_waiting(&pcm) == 0, "not long enough");
+    check(pcm_module_settle_any(&pcm, 1000) == PCM_MODULE_OK && pcm_module_tick(&pcm) == 15, "until it is stored");
+    check(pcm_module_settle_any(&pcm, 15) == PCM_MODULE_OK && pcm_module_waiting(&pcm) == 1, "what is told already counts no more");
+    check(pcm_module_next(&pcm, &outcome) == PCM_MODULE_OK && outcome.kind == PCM_MODULE_STORED, "it waits still");
+    check(pcm_module_read(&pcm, 20, 0) == PCM_MODULE_OK && pcm_module_settle_any(&pcm, 1000) == PCM_MODULE_OK, "a read");
+    check(pcm_module_tick(&pcm) == 25 && pcm_module_waiting(&pcm) == 1, "is answered");
+    check(pcm_module_settle_any(&pcm, 1000) == PCM_MODULE_OK && pcm_module_tick(&pcm) == 1000, "and then nothing is left to tell");
+    pcm_module_close(&pcm);
+}
+
+static void lines_are_looked_at(void)
+{
+    struct pcm_module_options options = PCM_MODULE_DEFAULTS;
+    for (int i = 0; i < 2; i++) {
+        struct pcm_module_wear before, behind;
+        struct pcm_module_outcome outcome;
+        struct pcm_module_standing line = {9, 9, 9, 9, 9, 9, 9};
+        uint8_t bytes[128], found[128], none[128] = {0};
+        options.line = i == 0 ? 64 : 128;
+        struct pcm_module pcm = opened(&options);
+        memset(bytes, 0xff, sizeof bytes);
+        check(pcm_module_newest(&pcm, 9, found, options.line) == PCM_MODULE_OK && memcmp(found, none, options.line) == 0, "never written, a line counts as 0");
+        check(pcm_module_write(&pcm, 0, 9, bytes, options.line) == PCM_MODULE_OK && pcm_module_look(&pcm, &before) == PCM_MODULE_OK, "a write waits");
+        check(pcm_module_newest(&pcm, 9, found, options.line) == PCM_MODULE_OK && memcmp(found, bytes, options.line) == 0, "its bytes are the newest");
+        check(pcm_module_look(&pcm, &behind) == PCM_MODULE_OK && before.senses == behind.senses && pcm_module_tick(&pcm) == 0, "nothing was sensed");
+        check(pcm_module_line(&pcm, 9, &line) == PCM_MODULE_OK && line.pulses + line.set + line.reset + line.stuck == 0, "its array line is new");
+        check(pcm_module_finish(&pcm) == PCM_MODULE_OK && pcm_module_next(&pcm, &outcome) == PCM_MODULE_OK, "it is stored");
+        check(pcm_module_line(&pcm, 9, &line) == PCM_MODULE_OK && line.place == outcome.place, "where the line stands");
+        check(line.pulses == 1 && line.set == 8 * options.line && line.reset == 0 && line.senses > 0 && line.changes > 0, "and is pulsed there");
+        check(pcm_module_newest(&pcm, 9, found, options.line) == PCM_MODULE_OK && memcmp(found, bytes, options.line) == 0, "from where it is read now");
+        found[0] = 7;
+        line.place = 7;
+        check(pcm_module_newest(&pcm, 512, found, options.line) == PCM_MODULE_NO_LINE, "no line");
+        check(pcm_module_newest(&pcm, 512, found, 1) == PCM_MODULE_NO_LINE, "nor of another size");
+        check(pcm_module_newest(&pcm, 9, found, options.line - 1) == PCM_MODULE_SIZE && pcm_module_newest(&pcm, 9, found, 0) == PCM_MODULE_SIZE, "other sizes");
+        check(pcm_module_line(&pcm, 512, &line) == PCM_MODULE_NO_LINE && line.place == 7 && found[0] == 7, "and what was there stays");
+        pcm_module_close(&pcm);
+    }
+}
+
+static void kinds_have_words(void)
+{
+    check(strcmp(pcm_module_word(PCM_MODULE_STORED), "stored") == 0 && strcmp(pcm_module_word(PCM_MODULE_FULL_QUEUE), "full") == 0, "the words of kinds");
+    check(strcmp(pcm_module_word(PCM_MODULE_CUT), "cut") == 0 && pcm_module_word(PCM_MODULE_CUT + 1) == NULL, "and none of a number that is none");
+}
+
 static void layouts_are_those_of_the_library(void)
 {
     check(sizeof(struct pcm_module) == 16 && offsetof(struct pcm_module, at) == 8, "a module");
@@ -244,6 +311,7 @@ static void layouts_are_those_of_the_library(void)
     check(sizeof(struct pcm_module_outcome) == 152 && offsetof(struct pcm_module_outcome, bytes) == 24, "an outcome");
     check(sizeof(struct pcm_module_backlog) == 12, "a bank");
     check(sizeof(struct pcm_module_wear) == 56, "how worn it is");
+    check(sizeof(struct pcm_module_standing) == 48 && offsetof(struct pcm_module_standing, changes) == 40, "a line");
     check((int)PCM_MODULE_CUT == (int)PCM_CUT && (int)PCM_MODULE_FULL_QUEUE == (int)PCM_FULL_QUEUE, "kinds are those of streams");
 }
 
@@ -258,5 +326,8 @@ int main(void)
     long_lines_have_128_bytes();
     masked_writes_give_some_bytes();
     wear_is_told();
+    any_row_is_waited_for();
+    lines_are_looked_at();
+    kinds_have_words();
     return checked();
 }

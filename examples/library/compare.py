@@ -43,7 +43,9 @@ def row(draw, tick, line, size, rows):
     if kind < 0.93:
         return f"{tick},C,,"
     if kind < 0.95 and rows:
-        return f"{tick},U,{draw.randrange(rows) + 1},"
+        return f"{tick},U,{draw.randrange(rows) + 1 if draw.random() < 0.7 else ''},"
+    if kind < 0.96:
+        return f"{tick},P,{line},"
     return f"{tick},{'Q' if kind < 0.97 else 'L' if kind < 0.98 else 'S'},,"
 
 

@@ -152,8 +152,9 @@ static void reads(struct known *it)
 static void waits(struct known *it)
 {
     uint64_t tick = tick_of(it), before = it->tick;
-    uint32_t row = any(it->rows + 2), status = pcm_module_settle_until(&it->pcm, row, tick);
-    if (it->pcm.is_open && (row == 0 || row > it->rows)) {
+    bool is_any = below(3) == 0;
+    uint32_t row = any(it->rows + 2), status = is_any ? pcm_module_settle_any(&it->pcm, tick) : pcm_module_settle_until(&it->pcm, row, tick);
+    if (it->pcm.is_open && !is_any && (row == 0 || row > it->rows)) {
         wants(status == PCM_MODULE_NO_ROW, "waiting for no row");
     } else {
         wants_row(it, status, tick, false);
@@ -190,6 +191,26 @@ static void takes(struct known *it, uint32_t most)
     }
 }
 
+/* A line is looked at. */
+static void peeks(struct known *it)
+{
+    uint8_t bytes[160] = {0};
+    struct pcm_module_standing told = {0, 0, 0, 0, 0, 0, 0};
+    uint32_t line = any(total_of(it) + 1);
+    size_t usual = it->options.line, size = below(12) ? usual : below(sizeof bytes);
+    bool has_line = line < total_of(it);
+    uint32_t status = pcm_module_line(&it->pcm, line, &told), closed = it->pcm.is_open ? PCM_MODULE_OK : PCM_MODULE_CLOSED;
+    wants(status == (closed ? closed : has_line ? PCM_MODULE_OK : PCM_MODULE_NO_LINE), "where a line stands");
+    wants(told.stuck <= 8 * 144 && (told.pulses > 0 || told.set + told.reset == 0), "how worn it is there");
+    status = pcm_module_newest(&it->pcm, line, bytes, size);
+    wants(status == (closed ? closed : !has_line ? PCM_MODULE_NO_LINE : size != usual ? PCM_MODULE_SIZE : PCM_MODULE_OK), "newest bytes");
+    for (size_t i = 0; i < sizeof bytes; i++) {
+        wants(bytes[i] == 0 || (status == PCM_MODULE_OK && i < size), "bytes beyond a line");
+        sum = sum * 31 + bytes[i];
+    }
+    sum = sum * 31 + told.place + told.pulses + told.senses + told.changes;
+}
+
 static void looks(struct known *it)
 {
     struct pcm_module_backlog backlog = {0, 0, 0};
@@ -210,7 +231,7 @@ static void looks(struct known *it)
 static void calls(struct known *it)
 {
     uint64_t tick = tick_of(it);
-    switch (below(16)) {
+    switch (below(17)) {
     case 0: opens(it); break;
     case 1: case 2: case 3: case 4: writes(it); break;
     case 5: case 6: case 7: case 8: reads(it); break;
@@ -219,6 +240,7 @@ static void calls(struct known *it)
     case 11: waits(it); break;
     case 12: case 13: takes(it, below(40)); break;
     case 14: looks(it); break;
+    case 15: peeks(it); break;
     default:
         if (below(20) == 0)
             ends(it);

@@ -26,21 +26,34 @@ static void tell_wear(uint64_t tick, const struct pcm_wear *it)
         printf("%llu%c", (unsigned long long)numbers[i], i < 6 ? ' ' : '\n');
 }
 
-/* What the module answers to a row that settles; what it tells is printed. */
-static enum pcm_result settled(struct pcm *pcm, uint64_t tick, char op, uint32_t row)
+static void tell_bytes(uint64_t tick, uint32_t line, const uint8_t *bytes, uint32_t size)
+{
+    printf(",bytes,%llu,%u,", (unsigned long long)tick, (unsigned)line);
+    for (uint32_t i = 0; i < size; i++)
+        printf("%02x", bytes[i]);
+    putchar('\n');
+}
+
+/* What the module answers to a row that settles, of this row or line; what it tells is printed. */
+static enum pcm_result settled(struct pcm *pcm, uint64_t tick, char op, uint32_t number)
 {
     struct pcm_bank banks[64];
     struct pcm_wear wear = {0, 0, 0, 0, 0, 0, 0};
+    uint8_t bytes[PCM_MOST_BYTES];
     memset(banks, 0, sizeof banks);
-    enum pcm_result result = op == 'U'   ? pcm_settle_until(pcm, row, tick, tell, NULL)
+    enum pcm_result result = op == 'A'   ? pcm_settle_any(pcm, tick, tell, NULL)
+                             : op == 'U' ? pcm_settle_until(pcm, number, tick, tell, NULL)
                              : op == 'Q' ? pcm_ask(pcm, tick, banks, 64, tell, NULL)
                              : op == 'L' ? pcm_look(pcm, tick, &wear, tell, NULL)
+                             : op == 'P' ? pcm_peek(pcm, tick, number, bytes, pcm->line_size, tell, NULL)
                                          : pcm_settle_all(pcm, tick, tell, NULL);
     for (uint32_t i = 0; result == PCM_OK && op == 'Q' && i < pcm->told.banks; i++)
         printf(",bank,%llu,%u,%u %u %s\n", (unsigned long long)tick, (unsigned)i, (unsigned)banks[i].waiting_writes, (unsigned)banks[i].waiting_reads,
                marks[banks[i].mark]);
     if (result == PCM_OK && op == 'L')
         tell_wear(tick, &wear);
+    if (result == PCM_OK && op == 'P')
+        tell_bytes(tick, number, bytes, pcm->line_size);
     if (result == PCM_OK)
         printf(",settled,%llu,,\n", (unsigned long long)pcm->tick);
     return result;
@@ -52,8 +65,8 @@ static enum pcm_result played(struct pcm *pcm, const char *row)
     struct pcm_outcome outcome;
     char *at;
     uint64_t tick = strtoull(row, &at, 10);
-    if (at[0] == ',' && (at[1] == 'S' || at[1] == 'Q' || at[1] == 'U' || at[1] == 'L'))
-        return settled(pcm, tick, at[1], (uint32_t)strtoul(at + 3, NULL, 10));
+    if (at[0] == ',' && strchr("SQULP", at[1]) != NULL)
+        return settled(pcm, tick, at[1] == 'U' && at[3] == ',' ? 'A' : at[1], (uint32_t)strtoul(at + 3, NULL, 10));
     enum pcm_result result = pcm_replay(pcm, row, tell, NULL);
     while (result == PCM_OK && pcm_next(pcm, &outcome) == PCM_OK)
         tell(NULL, &outcome);

@@ -6,7 +6,7 @@ import os
 import pathlib
 import struct
 import weakref
-from typing import Callable, Deque, Dict, Iterator, List, Optional
+from typing import Callable, Deque, Dict, Iterator, List, Optional, Tuple
 
 from .errors import OutOfMemory, PcmError, TooLong, UsageError
 from .outcomes import KINDS, MARKS, Backlog, Outcome, Read, Shape, Stored, Wear
@@ -76,7 +76,7 @@ def _loaded(path: str) -> ctypes.CDLL:
     """The library. Its calls are given C's values, bytes and numbers below 2**31 as they are: types of their own that ctypes looks at would take longer
     than the module. `OSError` where it can't be loaded."""
     calls = ctypes.CDLL(path)
-    if not hasattr(calls, "pcm_module_look"):
+    if not hasattr(calls, "pcm_module_newest"):
         raise OSError(f"{path} isn't {_NAME}")
     calls.pcm_module_tick.restype = ctypes.c_uint64
     return calls
@@ -109,6 +109,13 @@ def _options(given: Dict[str, object]) -> _Options:
     return made
 
 
+def _rest(asked: _Options) -> Tuple[int, int, int, int, str, str]:
+    """What a module is besides its sizes."""
+    table = COMMANDS["stream"].options
+    policy, registers = (table[name].choices[getattr(asked, name)] for name in ("policy", "registers"))
+    return asked.seed, asked.psi, asked.read_ticks, asked.iter_ticks, policy, registers
+
+
 class Linked:
     """A module of these options in this process, of this shape. `OSError` where the library isn't there or can't be loaded, and as `_options`."""
 
@@ -130,8 +137,10 @@ class Linked:
         self._tick, self._size = ctypes.c_uint64(), ctypes.c_size_t()
         self._known: Deque[Outcome] = collections.deque()
         self._falls_short = self._is_finished = False
+        self._line = 0
         self.status: Optional[int] = None
-        self.shape = Shape(1, asked.banks, asked.regions, asked.lines, asked.spares, asked.line, asked.write_queue, asked.read_queue)
+        sizes = (asked.banks, asked.regions, asked.lines, asked.spares, asked.line, asked.write_queue, asked.read_queue)
+        self.shape = Shape(1, *sizes) if options.get("tell") != "module" else Shape(2, *sizes, *_rest(asked))
 
     def hand(self, number: int, op: str, tick: int, line: int, data: Given) -> None:
         """Hands a row in, which has this number."""
@@ -153,9 +162,11 @@ class Linked:
     def settle(self, number: int, op: str, tick: int, row: int) -> int:
         """The module settles; answers the tick that was reached."""
         self._tick.value = tick
-        if op == "P" or (op == "U" and row == 0):
-            raise ValueError(f"the library answers no {'peek' if op == 'P' else 'settle until any row has its outcome'}: way=\"program\" does")
-        if op == "U":
+        if op == "P":
+            self._line = row
+        if op == "U" and row == 0:
+            status = self._calls.pcm_module_settle_any(self._at, self._tick)
+        elif op == "U":
             status = self._calls.pcm_module_settle_until(self._at, ctypes.c_uint32(row), self._tick)
         else:
             status = self._calls.pcm_module_settle(self._at, self._tick)
@@ -181,8 +192,10 @@ class Linked:
         return Wear(int(self._calls.pcm_module_tick(self._at)), *(getattr(told, name) for name, _ in _Worn._fields_))
 
     def newest(self) -> bytes:
-        """(Nor is a peek.)"""
-        raise NotImplementedError
+        """The newest bytes of the line of the last peek."""
+        told = ctypes.create_string_buffer(self.shape.line)
+        self._calls.pcm_module_newest(self._at, ctypes.c_uint32(self._line), told, ctypes.c_size_t(self.shape.line))
+        return told.raw
 
     def take(self) -> List[Outcome]:
         """The outcomes that are known and weren't taken."""

@@ -168,14 +168,13 @@ class Module:
 
     def settle_any(self, tick: int) -> List[Outcome]:
         """The same, until any row has its outcome that had none: to the first tick behind which something is to tell, and to `tick` where nothing is by
-        then. `ValueError` where the library serves the module."""
+        then."""
         self._settle("U", tick)
         return self._way.take()
 
     def peek(self, line: int, tick: Optional[int] = None) -> bytes:
         """Every bank goes on to a tick (None: that at which the module stands, so that none passes). Answers a line's newest bytes: those that the
-        module accepted last, wherever they are. No line is sensed for it. Outcomes known by then come from the next `settle`, `outcomes` or `finish`.
-        `ValueError` where the library serves the module."""
+        module accepted last, wherever they are. No line is sensed for it. Outcomes known by then come from the next `settle`, `outcomes` or `finish`."""
         self._settle("P", self.tick if tick is None else tick, line, type(line) is int and 0 <= line < self._lines)
         return self._way.newest()
 

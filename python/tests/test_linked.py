@@ -48,6 +48,10 @@ def drawn_call(draw, module, lines, size, step=60):
         return "cut", tick
     if kind < 0.84 and module._rows:
         return "settle_until", draw.randrange(module._rows) + 1, tick + 200
+    if kind < 0.86:
+        return "settle_any", tick + 200
+    if kind < 0.88:
+        return "peek", line, tick
     return ("settle" if kind < 0.92 else "wear" if kind < 0.95 else "banks"), tick
 
 
@@ -104,14 +108,20 @@ class Ways(unittest.TestCase):
             ("write", 5, 0, b""), ("write", 5, 0, ones + b"x"), ("write", 5, 0, "ff" * 64), ("write", 5, 4, ones), ("write", 5, 0, list(ones)),
             ("write_masked", 5, 0, [None] * 64), ("write_masked", 5, 0, some[:-1]), ("write_masked", 5, 0, [256] + some[1:]), ("write_masked", 4, 0, some),
             ("cut", 4), ("settle", 4), ("settle", None), ("banks", 4), ("settle_until", 0, 9), ("settle_until", 2, 9), ("settle_until", 1, 4), ("bank_of", 4),
+            ("settle_any", 4), ("settle_any", None), ("peek", 4), ("peek", -1), ("peek", 0, 4), ("peek", 0.0),
         )
         for call in calls:
             self.assertIsInstance(self.same(modules, *call), tuple, call)
         self.assertEqual(2, self.same(modules, "write", 5, 3, memoryview(bytearray(ones))))
         self.assertEqual([0] * 4, [self.same(modules, "bank_of", line) for line in range(4)])
         self.assertEqual(4, len(self.same(modules, "finish")) + len(self.same(modules, "finish")) + 2)
-        for name, arguments in (("read", (9, 0)), ("settle", (9,)), ("banks", (9,)), ("settle_until", (1, 9))):
+        for name, arguments in (("read", (9, 0)), ("settle", (9,)), ("banks", (9,)), ("settle_until", (1, 9)), ("settle_any", (9,)), ("peek", (0,))):
             self.assertEqual((ValueError, "no more rows are taken"), self.same(modules, name, *arguments))
+
+    def test_all_of_a_module_is_told_alike(self):
+        modules = self.both(tell="module", seed=7, policy="cancel", registers="array", **SMALL)
+        self.assertEqual(*(module.shape for module in modules))
+        self.assertEqual((2, 7, "cancel", "array"), tuple(getattr(modules[1].shape, it) for it in ("version", "seed", "policy", "registers")))
 
     def test_what_is_closed_answers_alike(self):
         for ends in (False, True):
