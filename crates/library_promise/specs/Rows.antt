@@ -1,11 +1,12 @@
 -- What a session promises of the rows that its calls took, the newest first, said of these rows and of what was told alone.
-use Rattle.std.specs.Prelude.{◌≡◌, ℕ, Bool, IsTrue, true, List, [], ◌++◌, length}
+use Rattle.std.specs.Prelude.{◌≡◌, ℕ, ◌<◌, Bool, IsTrue, true, List, [], ◌++◌, length}
 use Rattle.cell_rows.specs.Device.{ArrayState}
 use Rattle.result_rows.specs.declared.Outcome.{Outcome}
-use Rattle.row_rules.specs.{Rows.each_row, declared.Row.Row}
+use Rattle.row_rules.specs.{Rows.{each_row, newest}, declared.Row.Row}
 use Rattle.answered_laws.specs.Answered.{is_served_so_far}
 use Rattle.bank_timing.specs.Extending.{outcome_in}
-use Rattle.module_shape.specs.declared.raw.RawShape.{RawShape}
+use Rattle.module_shape.specs.{Limits.total_of, declared.raw.RawShape.RawShape}
+use Rattle.pcm_module.specs.State.{ModuleState, stand_now}
 use Rattle.right_runs.specs.{Ends.BankEnd, Runs.{EndsTo, RunsRightTo}}
 use Rattle.row_printer.specs.{Printing.table_of, Telling.became, declared.told.Told.Told}
 use Rattle.trace_stream.specs.{Asked.events_in, declared.asked.Asked.Asked}
@@ -40,3 +41,9 @@ module _ {n m : ℕ} (e : ℕ) (raw : RawShape) (seed : ℕ) (asked : List (Aske
     pub in_turn : AreInTurnByRows raw seed asked along.told along.rows (outcome_in (table_of places told))
     pub ends : ℕ → BankEnd
     pub right : RunsRightTo e raw seed off (rows_of (events_in asked) (table_of places told)) array ends
+
+-- the bytes that stand for each line of a module now are its newest by these rows, as they stand by what was told
+abbrev pub StandsNewest : {n m e : ℕ} → ModuleState n m e → ArrayState n m → List (Asked n) → List (Told n) → Type 0
+StandsNewest module_ array asked told =
+    (line : ℕ) → line < total_of module_.shape
+    → stand_now module_ array line ≡ newest (rows_now (events_in asked) (table_of (length (events_in asked)) told)) line

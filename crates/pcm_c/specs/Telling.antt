@@ -10,7 +10,7 @@ use Rattle.wear_totals.specs.Wear.{wear_of}
 use Rattle.row_printer.specs.{declared.told.ArrayWear.ArrayWear, declared.told.Backlog.Backlog, declared.told.Mark.Mark, declared.told.Mark.TheVariants.{Going, Exhausted, Halted}}
 use Rattle.pcm_library.specs.{Looking.standing_of, declared.keeper.Kept.Kept, declared.looking.Standing.Standing}
 use Rattle.pcm_c.specs.{Calls.Hands, declared.backlog.ModuleBacklog.ModuleBacklog, declared.held.Held.Held, declared.held.Held.TheVariants.{Narrow, Wide}}
-use Rattle.pcm_c.specs.{declared.line.ModuleLine.ModuleLine, declared.outcome.ModuleOutcome.ModuleOutcome, declared.wear.ModuleWear.ModuleWear}
+use Rattle.pcm_c.specs.{declared.standing.ModuleStanding.ModuleStanding, declared.outcome.ModuleOutcome.ModuleOutcome, declared.wear.ModuleWear.ModuleWear}
 
 -- the number of a kind of outcomes
 abbrev pub kind_of : {n : ℕ} → Outcome n → ℕ
@@ -103,8 +103,8 @@ abbrev pub no_wear : CellWear
 no_wear = record { stuck = 0; changes = 0 }
 
 -- where a line stands, and how worn it is there, is told so: what isn't counted as none
-abbrev pub told_line : Standing → ModuleLine
-told_line standing =
+abbrev pub told_standing : Standing → ModuleStanding
+told_standing standing =
     let cells = unwrap_or standing.wear.cells no_wear in
     let energy = unwrap_or standing.wear.energy no_energy in
     record {
@@ -118,11 +118,11 @@ told_line standing =
     }
 
 -- so it is told of a line of a module
-abbrev pub TellsLine : (line : ℕ) → Held → ModuleLine → Type 0
-TellsLine line (Narrow held) told = told ≡ told_line (standing_of held.module_ (seeded_state held.array) (seeded_changes held.array) line)
-TellsLine line (Wide held) told = told ≡ told_line (standing_of held.module_ (seeded_state held.array) (seeded_changes held.array) line)
+abbrev pub TellsLine : (line : ℕ) → Held → ModuleStanding → Type 0
+TellsLine line (Narrow held) told = told ≡ told_standing (standing_of held.module_ (seeded_state held.array) (seeded_changes held.array) line)
+TellsLine line (Wide held) told = told ≡ told_standing (standing_of held.module_ (seeded_state held.array) (seeded_changes held.array) line)
 
-abbrev pub TellsLineAt : (line : ℕ) → Option Held → ModuleLine → Type 0
+abbrev pub TellsLineAt : (line : ℕ) → Option Held → ModuleStanding → Type 0
 TellsLineAt line (Some held) told = TellsLine line held told
 TellsLineAt line None told = ⊥
 

@@ -8,9 +8,9 @@ ghost use Rattle.pcm_library.specs.Looking.{standing_of};
 ghost use Rattle.pcm_library.specs.declared.keeper.Kept.{Kept};
 ghost use Rattle.pcm_c.specs.Answers.{RowTold, finish_status, line_status, newest_status, next_status, refusal_of_cut, refusal_of_masked, refusal_of_read, refusal_of_write, settle_status, status_number, wait_status};
 ghost use Rattle.pcm_c.specs.Calls.{Finishes, Hands, Takes};
-ghost use Rattle.pcm_c.specs.Telling.{IsTold, told_line};
+ghost use Rattle.pcm_c.specs.Telling.{IsTold, told_standing};
 
-use crate::line::{ModuleLine, tell_line};
+use crate::standing::{ModuleStanding, tell_standing};
 use crate::outcome::{ModuleOutcome, tell};
 use crate::status::{Status, told};
 use cell_rows::{CellArray, TellsCells};
@@ -173,16 +173,16 @@ pub(crate) fn settle_any<
 pub(crate) fn line<const B: usize, const M: usize, const E: usize, A: TellsCells<B, M> + Drop>(
     session: &Session<B, M, E, A>,
     line: u32,
-    out: &mut ModuleLine,
+    out: &mut ModuleStanding,
 ) -> Status
     ensures answer { result ≡ line_status session.now line }
-    ensures done { result ≡ Status.Done → out.new ≡ told_line (standing_of session.now.module_
+    ensures done { result ≡ Status.Done → out.new ≡ told_standing (standing_of session.now.module_
         (A.state session.now.array) (A.changes session.now.array) line) }
     ensures out { result ≢ Status.Done → out.new ≡ out.old }
 {
     match session.standing(line) {
         Some(standing) => {
-            tell_line(&standing, out);
+            tell_standing(&standing, out);
             Status::Done
         }
         None => Status::NoLine,

@@ -14,7 +14,7 @@ use crate::backlog::{ModuleBacklog, tell};
 use crate::calls::{
     cut, finish, line, newest, next, read, settle, settle_any, settle_until, write, write_masked,
 };
-use crate::line::ModuleLine;
+use crate::standing::ModuleStanding;
 use crate::options::Chosen;
 use crate::outcome::ModuleOutcome;
 use crate::status::Status;
@@ -231,7 +231,7 @@ impl Held {
     }
 
     /// Where a line stands, and how worn it is there, is told to C.
-    pub(crate) fn line(&self, at: u32, out: &mut ModuleLine) -> Status
+    pub(crate) fn line(&self, at: u32, out: &mut ModuleStanding) -> Status
         ensures answer { result ≡ status_at (λ n m e s. line_status s at) self.now }
         ensures done { result ≡ Status.Done → TellsLine at self.now out.new }
         ensures out { result ≢ Status.Done → out.new ≡ out.old }

@@ -16,7 +16,7 @@ mod calls;
 mod handle;
 mod held;
 mod lend;
-mod line;
+mod standing;
 mod loose;
 mod options;
 mod outcome;
@@ -29,7 +29,7 @@ use crate::status::Status;
 pub use backlog::ModuleBacklog;
 pub use handle::Handle;
 pub use held::{Held, NarrowSession, WideSession};
-pub use line::ModuleLine;
+pub use standing::ModuleStanding;
 pub use options::ModuleOptions;
 pub use outcome::ModuleOutcome;
 pub use pcm::PcmModule;
@@ -264,7 +264,7 @@ pub extern "C" fn pcm_module_bank(pcm: &mut PcmModule, bank: u32, out: &mut Modu
 
 /// Where a line stands, and how worn its array line is.
 #[unsafe(no_mangle)]
-pub extern "C" fn pcm_module_line(pcm: &mut PcmModule, line: u32, out: &mut ModuleLine) -> u32
+pub extern "C" fn pcm_module_line(pcm: &mut PcmModule, line: u32, out: &mut ModuleStanding) -> u32
     ensures answer { result ≡ number_at (λ n m e s. line_status s line) pcm.old.value }
     ensures done { result ≡ 0 → TellsLineAt line pcm.old.value out.new }
     ensures rest { pcm.new ≡ pcm.old }

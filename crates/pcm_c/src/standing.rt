@@ -1,6 +1,6 @@
 // Where a line of a module stands, and how worn it is there, as C sees it.
 ghost use Rattle.std.specs.Prelude.{◌≡◌, unwrap_or};
-ghost use Rattle.pcm_c.specs.Telling.{no_wear, told_line};
+ghost use Rattle.pcm_c.specs.Telling.{no_wear, told_standing};
 
 use crate::wear::counted;
 use cell_rows::CellWear;
@@ -9,7 +9,7 @@ use pcm_library::Standing;
 /// Where a line of a module stands in the array, and how worn that array line is. Each count stays at the greatest of its type.
 #[repr(C)]
 #[derive(Drop)]
-pub struct ModuleLine {
+pub struct ModuleStanding {
     /// How often the array line was pulsed or torn.
     pub pulses: u64,
     /// How often it was sensed.
@@ -40,8 +40,8 @@ fn worn(cells: Option<CellWear>) -> CellWear
 }
 
 /// Tells C where a line stands, and how worn it is there.
-pub(crate) fn tell_line(standing: &Standing, told: &mut ModuleLine)
-    ensures { told.new ≡ told_line standing.now }
+pub(crate) fn tell_standing(standing: &Standing, told: &mut ModuleStanding)
+    ensures { told.new ≡ told_standing standing.now }
 {
     let energy = counted(standing.wear.energy);
     let cells = worn(standing.wear.cells);
