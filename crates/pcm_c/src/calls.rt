@@ -10,8 +10,8 @@ ghost use Rattle.pcm_c.specs.Answers.{RowTold, finish_status, line_status, newes
 ghost use Rattle.pcm_c.specs.Calls.{Finishes, Hands, Takes};
 ghost use Rattle.pcm_c.specs.Telling.{IsTold, told_standing};
 
-use crate::standing::{ModuleStanding, tell_standing};
 use crate::outcome::{ModuleOutcome, tell};
+use crate::standing::{ModuleStanding, tell_standing};
 use crate::status::{Status, told};
 use cell_rows::{CellArray, TellsCells};
 use pcm_library::Session;
@@ -153,12 +153,10 @@ pub(crate) fn settle_until<
 }
 
 /// Every bank goes on until any row has its outcome that had none, at most to a tick.
-pub(crate) fn settle_any<
-    const B: usize,
-    const M: usize,
-    const E: usize,
-    A: CellArray<B, M> + Drop,
->(session: &mut Session<B, M, E, A>, limit: u64) -> Status
+pub(crate) fn settle_any<const B: usize, const M: usize, const E: usize, A: CellArray<B, M> + Drop>(
+    session: &mut Session<B, M, E, A>,
+    limit: u64,
+) -> Status
     ensures answer { result ≡ settle_status session.old limit }
     ensures done { result ≡ Status.Done → Takes A.state (Awaits (record {
       limit = limit;

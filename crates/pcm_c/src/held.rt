@@ -14,9 +14,9 @@ use crate::backlog::{ModuleBacklog, tell};
 use crate::calls::{
     cut, finish, line, newest, next, read, settle, settle_any, settle_until, write, write_masked,
 };
-use crate::standing::ModuleStanding;
 use crate::options::Chosen;
 use crate::outcome::ModuleOutcome;
+use crate::standing::ModuleStanding;
 use crate::status::Status;
 use crate::wear::{ModuleWear, tell_wear};
 use pcm_cells::MemArray;

@@ -16,11 +16,11 @@ mod calls;
 mod handle;
 mod held;
 mod lend;
-mod standing;
 mod loose;
 mod options;
 mod outcome;
 mod pcm;
+mod standing;
 mod status;
 mod wear;
 
@@ -29,10 +29,10 @@ use crate::status::Status;
 pub use backlog::ModuleBacklog;
 pub use handle::Handle;
 pub use held::{Held, NarrowSession, WideSession};
-pub use standing::ModuleStanding;
 pub use options::ModuleOptions;
 pub use outcome::ModuleOutcome;
 pub use pcm::PcmModule;
+pub use standing::ModuleStanding;
 use std::alloc::Global;
 pub use wear::ModuleWear;
 

@@ -51,12 +51,7 @@ pub(crate) fn serve_until<const B: usize, const M: usize, const E: usize, A: Cel
 
 /// Brings every bank to the tick that was reached before, and then, as long as no outcome becomes known, to the next tick at which an action of
 /// some bank ends, at most to a tick; and tells, behind what became known by it, the tick that was reached.
-pub(crate) fn serve_until_any<
-    const B: usize,
-    const M: usize,
-    const E: usize,
-    A: CellArray<B, M>,
->(
+pub(crate) fn serve_until_any<const B: usize, const M: usize, const E: usize, A: CellArray<B, M>>(
     pcm: &mut Module<B, M, E>,
     array: &mut A,
     until: &UntilAny,
