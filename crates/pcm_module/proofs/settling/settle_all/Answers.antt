@@ -1,4 +1,4 @@
-use Rattle.std.proofs.Common.{arith, false, ◌≡◌, ℕ, ◌<◌, ◌++◌, length, Some, refl, sym, subst, ◌∙◌}
+use Rattle.std.proofs.Common.{arith, false, ◌≡◌, ℕ, ◌+◌, ◌<◌, ◌++◌, length, Some, refl, sym, subst, ◌∙◌}
 use Rattle.std.specs.Prelude.{slice_get}
 use Rattle.bank_timing.proofs.{Sizes.timed_fits, Telling.in-turn}
 use Rattle.masked_bytes.proofs.Lists.{item-at}

@@ -1,8 +1,8 @@
-use Rattle.std.proofs.Common.{arith, ◌≡◌, ◌∙◌, ◌<◌, ℕ, false, length, Some, refl, sym, subst, inl}
+use Rattle.std.proofs.Common.{arith, ◌≡◌, ◌∙◌, ◌<◌, ◌++◌, ℕ, false, length, Some, sym, subst, inl}
 use Rattle.std.specs.Prelude.{slice_get}
 use Rattle.masked_bytes.proofs.Lists.{item-at}
 use Rattle.bank_timing.proofs.{Sizes.timed_fits, Telling.in-turn}
-use Rattle.pcm_module.{specs.State.ModuleState, specs.Settling.MaySettle, specs.Replaying.{BankReplays, asked_in_bank}, proofs.InOrder.of_bank}
+use Rattle.pcm_module.{proofs.InOrder.of_bank}
 use Rattle.pcm_module.proofs.Settles.{settle_none, settle_replays, settle_one}
 use Rattle.pcm_module.proofs.settling.settle_one.Goals as goal
 
@@ -24,7 +24,7 @@ advance-requires g c =
       (
         record {
           running = f.going;
-          led = (may.led.0 bank, f.leads);
+          led = ((so_far.replays may.led.0 may.led.1 may.led.2).0 bank ++ may.led.0 bank, f.leads);
           unset = f.open_rows;
         },
         (f.in_time, may.within),
@@ -59,6 +59,4 @@ returns g c = record {
 }
 
 pub index_mut-requires : goal.index_mut-requires
-index_mut-requires g c =
-    let may = c.requires.ready.1 in
-    omega (arith, may.count, c.requires.ready.2)
+index_mut-requires g c = subst (λ (k : ℕ). c.args.bank < k) (sym c.requires.ready.1.count ∙ sym c.args.banks.now.ok.0) c.requires.ready.2
