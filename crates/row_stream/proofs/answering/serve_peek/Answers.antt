@@ -1,4 +1,4 @@
-use Rattle.std.proofs.Common.{◌≡◌, ℕ, List, false, [], ◌∷◌, ◌++◌, ap, ◌∙◌}
+use Rattle.std.proofs.Common.{◌≡◌, ℕ, List, false, [], ◌∷◌, ◌++◌, ap, ◌∙◌, arith}
 use Rattle.pcm_module.specs.{Asking.asked_for, State.stand_now}
 use Rattle.row_printer.specs.{declared.told.Newest.Newest, declared.told.Told.TheVariants.{Peeked, Settled}}
 use Rattle.trace_stream.specs.Asked.{events_in}

@@ -57,9 +57,9 @@ loop-bank-preserved g c =
     let own : c.next_end.result ≡ ends bank =
     c.next_end.ensures ∙ ap (λ (k : ClockState g.row.B g.row.M g.row.E). next_end limit k) (sym (at-bank c.args.pcm.now bank clock c.timed.ensures)) in
     record {
-      most = omega (arith, c.min.ensures, before.most);
-      least = λ at below. least-more c.loop-bank.first c.next_end.result c.min.result bank at ends c.min.ensures own before.least below;
-      some = some-more c.loop-bank.first c.next_end.result c.min.result bank c.args.pcm.now.shape.banks limit ends c.min.ensures own exists before.some;
+      most = omega (arith, c.min-first.ensures, before.most);
+      least = λ at below. least-more c.loop-bank.first c.next_end.result c.min-first.result bank at ends c.min-first.ensures own before.least below;
+      some = some-more c.loop-bank.first c.next_end.result c.min-first.result bank c.args.pcm.now.shape.banks limit ends c.min-first.ensures own exists before.some;
       shape = before.shape;
       silent = before.silent;
       later = before.later;
