@@ -1,5 +1,5 @@
 use Rattle.std.proofs.Common.{◌≡◌, ◌⊎◌, ◌<◌, ◌≤◌, ◌+◌, ◌∙◌, ℕ, min, inl, inr, refl, sym, ap, arith}
-use Rattle.std.proofs.lemmas.Bool.{cases_eq, cases_lt}
+use Rattle.std.{specs.Prelude.slice_get, proofs.lemmas.Bool.{cases_eq, cases_lt}}
 use Rattle.bank_timing.{specs.Extending.next_end, proofs.Sizes.timed_fits}
 use Rattle.clock_laws.specs.State.{ClockState}
 use Rattle.module_shape.specs.declared.raw.RawShape.{RawShape}
@@ -33,7 +33,7 @@ timed-requires g c =
 pub next_end-requires : goal.next_end-requires
 next_end-requires g c =
     let exists : c.loop-bank.bank < c.args.pcm.now.shape.banks = omega (arith, c.loop-bank-test.true, c.banks-banks.ensures.number, ap (λ (r : RawShape). r.banks) c.shape.ensures.shape) in
-    let at = at-tick c.args.pcm.now.tick _ c.timed.result.now c.timed.ensures (c.requires.settled c.loop-bank.bank exists) in
+    let at = at-tick c.args.pcm.now.tick (slice_get c.args.pcm.now.banks c.loop-bank.bank) c.timed.result.now c.timed.ensures (c.requires.settled c.loop-bank.bank exists) in
     (timed_fits g.row.B g.row.M g.row.E c.requires.layout, omega (arith, at, c.loop-bank.invariant.later, c.requires.in_time))
 
 pub loop-bank-init : goal.loop-bank-init
