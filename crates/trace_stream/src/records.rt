@@ -13,7 +13,7 @@ ghost use Rattle.trace_stream.specs.Requests.{AsksWhere, LacksRow};
 use crate::fault::StreamFault;
 use crate::incoming::Incoming;
 use crate::kept::Gathered;
-use crate::machine::{Move, Place, ends_at_end, step, takes_plain};
+use crate::machine::{ByteMove, Place, ends_at_end, step, takes_plain};
 use pcm_io::Source;
 use trace_reader::{PlainRow, plain_end, plain_row};
 
@@ -74,16 +74,16 @@ impl Records {
         self.incoming.pass(1);
         self.place = place;
         match what {
-            Move::Skip => false,
-            Move::Keep => {
+            ByteMove::Skip => false,
+            ByteMove::Keep => {
                 self.kept.keep(&[byte]);
                 false
             }
-            Move::EndField => {
+            ByteMove::EndField => {
                 self.kept.end_field();
                 false
             }
-            Move::EndRecord => {
+            ByteMove::EndRecord => {
                 self.kept.end_field();
                 true
             }
