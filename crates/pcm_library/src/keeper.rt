@@ -1,5 +1,5 @@
 // What keeps outcomes until they are taken.
-ghost use Rattle.std.specs.Prelude.{◌≡◌, ◌+◌, ◌<◌, ◌≤◌, [], ◌∷◌, ◌++◌, Some, IfNone, IfOk, OnErr, OnOk, IsTrue, is_some, length, option_to_list};
+ghost use Rattle.std.specs.Prelude.{◌≡◌, ◌+◌, ◌<◌, ◌≤◌, [], ◌∷◌, ◌++◌, Some, IfNone, IfOk, OnErr, OnOk, IsTrue, false, is_some, length, option_to_list};
 ghost use Rattle.std.specs.VecDeque.{deque_capacity, deque_len};
 ghost use Rattle.result_rows.specs.declared.Outcome.TheVariants.{Unset};
 ghost use Rattle.result_rows.specs.Outcomes.{op_of};
