@@ -1,5 +1,5 @@
 -- The front of an image of either format, its numbers and its banks: what is read is saved so, and what is saved so is read.
-use Rattle.std.proofs.Common.{◌≡◌, ℕ, suc, ◌+◌, ◌*◌, ◌%◌, ◌^◌, ◌<◌, ◌≤◌, true, ◌==◌, eqb, nat_le, nat_lt, List, [], ◌∷◌, ◌++◌, length, get_or, Result, Ok, Err, All, refl, sym, ap, subst, ◌∙◌, append_assoc, arith}
+use Rattle.std.proofs.Common.{◌≡◌, ℕ, suc, ◌%◌, ◌^◌, ◌<◌, ◌≤◌, true, ◌==◌, eqb, nat_le, nat_lt, List, [], ◌∷◌, ◌++◌, length, get_or, Ok, All, refl, ap, subst, ◌∙◌, append_assoc, arith}
 use Rattle.std.{specs.Int.{w16, w32, w64}, specs.List.{flat_map, AllByRecursion}, proofs.lemmas.Bool.{eqb-true, and_from}}
 use Rattle.std.proofs.{lemmas.Bool.Decides.nat_tests, lemmas.List.Elements.{All-from_recursion, All-get_or}}
 use Rattle.masked_bytes.proofs.Truth.{and_first, and_second}

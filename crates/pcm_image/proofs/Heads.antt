@@ -1,11 +1,11 @@
 -- What the tests of a head say of its numbers.
-use Rattle.std.proofs.Common.{◌≡◌, ℕ, ◌+◌, ◌*◌, ◌^◌, ◌<◌, ◌≤◌, Bool, true, false, cond, ◌&&◌, eqb, nat_le, sym, ap, ◌∙◌, arith}
+use Rattle.std.proofs.Common.{◌≡◌, ℕ, ◌+◌, ◌*◌, ◌^◌, ◌<◌, ◌≤◌, Bool, true, false, cond, eqb, nat_le, sym, ap, ◌∙◌, arith}
 use Rattle.std.{specs.Int.is_power_of_two, proofs.Math.Nat.{mul_comm, mul-add}, proofs.lemmas.Bool.and_from, proofs.lemmas.Bool.Decides.nat_tests, proofs.lemmas.Nat.mul-le}
 use Rattle.masked_bytes.proofs.Truth.{and_first, and_second}
 use Rattle.feistel_map.{specs.Log2.log2, proofs.Powers.log2-between}
 use Rattle.module_shape.specs.{Limits.{is_between, is_power_between, large_limits, most_array_lines, small_limits}, declared.raw.SizeLimits.SizeLimits}
 use Rattle.module_shape.proofs.{Bounds.{array_lines_few, array_lines_small, bank-few}, Powers.size_of_powers}
-use Rattle.pcm_image.specs.{Formats.sizes_of, Saved.{Head, IsHead, IsHeadIn, is_lines_in, total_in, slots_in, controls_in, array_lines_in}}
+use Rattle.pcm_image.specs.{Formats.sizes_of, Saved.{Head, IsHead, IsHeadIn, total_in, slots_in, controls_in, array_lines_in}}
 use Rattle.pcm_image.specs.{declared.Format.Format, declared.Format.TheVariants.{Small, Large}}
 use Rattle.pcm_image.proofs.Pairs.{limit_of}
 

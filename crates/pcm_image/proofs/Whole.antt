@@ -5,7 +5,7 @@ use Rattle.std.proofs.lemmas.List.{append-nil, nil_from_length, length-append, l
 use Rattle.std.proofs.lemmas.List.Elements.{All-from_recursion}
 use Rattle.cell_rows.specs.declared.row.Cells.{Cells}
 use Rattle.pcm_image.specs.{Giving.Gives, Reading.{Cursor, any, times, is_size, size_of, size_behind, head_at, bank_at, row_of, cells_at, image_of}}
-use Rattle.pcm_image.specs.Saved.{Saved, Head, IsHead, IsSaved, IsSavedBank, IsSavedRow, array_lines_in}
+use Rattle.pcm_image.specs.Saved.{Saved, IsHead, IsSaved, IsSavedBank, IsSavedRow, array_lines_in}
 use Rattle.pcm_image.specs.Spelling.{u8, u16, u64, magic, head_bytes, bank_bytes, cells_bytes, image_bytes}
 use Rattle.pcm_image.specs.{declared.fields.ReadImage.ReadImage, declared.Format.TheVariants.Small}
 use Rattle.pcm_image.proofs.{Entries.{all_map, size_again}, Loop.gives_on, Fronts.{all_to, BankFits, bank_pair, bank_saved, bank_back, head_takes, head_again}}

@@ -272,11 +272,7 @@ pub fn home_at<'a>(fields: Fields<'a>) -> Result<(u8, Fields<'a>), ReadImage>
 // The first two fields: the eight bytes with which images of a format begin, and the size of their lines, which is 64 or 128 and the one
 // that is asked for.
 #[tactic(auto, unfolding(crate::specs::Reading::size_at))]
-fn size_is<'a>(
-    fields: Fields<'a>,
-    front: &[u8],
-    size: usize,
-) -> Result<(u8, Fields<'a>), ReadImage>
+fn size_is<'a>(fields: Fields<'a>, front: &[u8], size: usize) -> Result<(u8, Fields<'a>), ReadImage>
     requires { fields.at < 2 ^ 31 - 8 }
     ensures gives { Gives (λ x. (x.0, cursor x.1)) result
         (size_at front.now (is_size_of size) (cursor fields.entry)) }

@@ -100,8 +100,10 @@ fn mixed(head: HeadImage, line: u32) -> u32
 pub fn locate(head: HeadImage, line: u32) -> (u32, u32)
     requires head { IsHeadIn large_limits (head_view head) }
     requires exists { line < total_in (head_view head) }
-    ensures is { result ≡ (mixed_in (head_view head) line / lines_in (head_view head),
-        mixed_in (head_view head) line % lines_in (head_view head)) }
+    ensures is { result ≡ (
+      mixed_in (head_view head) line / lines_in (head_view head),
+      mixed_in (head_view head) line % lines_in (head_view head),
+    ) }
     ensures bank { result.0 < head.banks }
     ensures own { result.1 < lines_in (head_view head) }
 {

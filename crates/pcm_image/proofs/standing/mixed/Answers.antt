@@ -1,5 +1,5 @@
-use Rattle.std.proofs.Common.{◌≡◌, ◌^◌, ap, ◌∙◌, arith}
-use Rattle.feistel_map.{specs.Log2.log2, specs.Network.{network_of, feistel}, proofs.Powers.{bits_some, bits_large}}
+use Rattle.std.proofs.Common.{◌^◌, ap, ◌∙◌, arith}
+use Rattle.feistel_map.{specs.Network.{network_of, feistel}, proofs.Powers.{bits_some, bits_large}}
 use Rattle.module_shape.specs.Limits.{large_limits}
 use Rattle.pcm_image.{specs.Giving.head_view, specs.Saved.total_in, proofs.Heads.{head-fits, is_log}}
 use Rattle.pcm_image.proofs.standing.mixed.Goals as goal
