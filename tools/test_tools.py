@@ -796,7 +796,7 @@ class Unused(unittest.TestCase):
     def setUp(self):
         self.top = pathlib.Path(tempfile.mkdtemp(prefix="pcm tools ")) / "a clone"
         self.addCleanup(shutil.rmtree, self.top.parent)
-        for name in ("edges", "unused", "imports", "lint", "crates.py", "definitions.py"):
+        for name in ("edges", "unused", "namesakes", "imports", "lint", "crates.py", "definitions.py"):
             (self.top / "tools").mkdir(parents=True, exist_ok=True)
             shutil.copy(TOP / "tools" / name, self.top / "tools")
         (self.top / "examples").mkdir()
@@ -839,6 +839,17 @@ class Unused(unittest.TestCase):
         imports = "use Rattle.low.specs.Parts.{half, ◌+◌}\nuse Rattle.low.specs.Parts as parts\npub use Rattle.low.specs.Parts.{half}\n\n-- half\nother = 1 + 1\n"
         self.planted("crates/high/specs/Lib.antt", imports, "crates/high/specs/Lib.antt: names nowhere Rattle.low.specs.Parts.half",
                      "tools/lint: imports that their file names nowhere: failed")
+
+    def test_a_type_of_one_name_in_two_crates(self):
+        half, other = "crates/low/src/half.rt", "crates/high/src/half.rt"
+        self.write(half, "/// A half.\npub struct Half;\n\nimpl Part for Half {\n    type Whole = Half;\n}\n")
+        self.write("crates/low/src/lib.rt", f"{self.TEXTS['crates/low/src/lib.rt']}struct Half;\n")
+        named = lambda text: (self.write(other, text), subprocess.run([self.top / "tools" / "namesakes"], capture_output=True, text=True).stdout)[1]
+        for text in ("struct Halves;", "// struct Half", "fn half() -> Half {}", "    type Half = u8;", "struct Whole;"):
+            self.assertEqual(named(text), "")
+        for text in ("struct Half<T> {}", "pub enum Half {", "\n\npub(crate) type Half = u8;", "trait Half {", "pub unsafe trait Half {"):
+            self.assertEqual(named(text), f"Half: {half} {other}\n")
+        self.assertEqual(self.lint(), [f"Half: {half} {other}", "tools/lint: types of one name in two crates: failed"])
 
     @unittest.skipUnless(shutil.which("pyflakes3") or shutil.which("pyflakes"), "there is no pyflakes3")
     def test_a_module_that_a_script_of_python_imports_for_nothing(self):

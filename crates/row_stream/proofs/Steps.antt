@@ -1,5 +1,5 @@
 -- What a step of a stream does to what was served before.
-use Rattle.std.proofs.Common.{◌≡◌, ◌≢◌, ℕ, ◌<◌, ◌+◌, ◌&&◌, Bool, true, false, List, ◌∷◌, Option, Some, sym, ap, ◌∙◌, subst, inl, inr, refl}
+use Rattle.std.proofs.Common.{◌≡◌, ◌≢◌, ℕ, ◌<◌, ◌+◌, ◌&&◌, Bool, true, false, List, ◌∷◌, Option, Some, sym, ap, ◌∙◌, subst, inl, inr}
 use Rattle.std.specs.Io.KnownBytes.{Appends, IsAtEnd}
 use Rattle.cell_rows.specs.Device.{ArrayState}
 use Rattle.pcm_io.specs.{Faults.Rose, Giving.AppendsPrefix}
@@ -7,9 +7,9 @@ use Rattle.module_shape.specs.{Limits.total_of, declared.raw.RawShape.RawShape}
 use Rattle.pcm_module.specs.State.{ModuleState}
 use Rattle.row_printer.specs.{Printing.{IsPrinting, Printing, table_told, text_told}, Refusing.any_refused, declared.snapshot.Snapshot.Snapshot, declared.told.Shown.Shown}
 use Rattle.row_printer.specs.declared.told.Told.{Told}
-use Rattle.trace_stream.specs.{Asked.reached_at, Kept.decides, Stream.Standing, declared.asked.Asked.Asked}
+use Rattle.trace_stream.specs.{Asked.reached_at, Stream.Standing, declared.asked.Asked.Asked}
 use Rattle.row_stream.specs.{Asking.behind_of, Refusing.{EndsBehind, GoesAsFar}, Serving.{IsServing, MayServe, ServesOn, told_before, told_so_far}}
-use Rattle.row_stream.specs.{Sourcing.{GivesNext, HasStopped, IsRead, IsReadTo}, Stepping.{AsksBehind, GoesOn, IsTaken, Rests, Steps, TakesRow, TellsNoMore, Writes}}
+use Rattle.row_stream.specs.{Sourcing.{GivesNext, HasStopped, IsRead, IsReadTo}, Stepping.{GoesOn, IsTaken, Rests, Steps, TakesRow, TellsNoMore, Writes}}
 use Rattle.row_stream.specs.{declared.stop.Behind.Behind, declared.stop.StreamStep.StreamStep, declared.stop.StreamStep.TheVariants.{Goes, Ends, Stops}, declared.stop.Stop.Stop}
 use Rattle.row_stream.{specs.declared.stop.Stop.TheVariants.Output, proofs.Alike.told-same, proofs.Refusals.{ends-all, ends-there, still-none}}
 use Rattle.row_stream.proofs.Rows.{HasFed, far-late, far-no-next, fed-come, fed-ended, fed-given, fed-late, fed-no-next, fed-same, fed-so-far, next-few}
@@ -97,17 +97,6 @@ module _ {n : ℕ} {K : Type 0} (written : K → Option (List ℕ)) (faults : K 
     whole = λ is before first h. writes.whole is before first (printing before first h);
     part = λ is before first h. writes.part is before first (printing before first h);
   }
-
-  -- it was asked behind what a printer had printed by then, and only where the bytes that had arrived decide of no row
-  pub asks-behind : {S : Type 0} (source rest : S) (from : Standing) (by : Printing n K) → TellsNoMore out by
-      → (decides from.state 0 from.arrived.bytes ≡ true → rest ≡ source)
-      → ((before : Option (List ℕ)) (first : ℕ) → IsPrinting written faults before first out → Appends before (written by.sink) (text_told by))
-      → AsksBehind written faults source rest from out
-  asks-behind source rest from by same prompt is = either (decides from.state 0 from.arrived.bytes) refl
-    where
-      either : (decided : Bool) → decides from.state 0 from.arrived.bytes ≡ decided → AsksBehind written faults source rest from out
-      either true on = inl (prompt on)
-      either false off = inr (off, by, same, is)
 
 -- of what a source gave, rows were served, and a step follows
 module _ {n m e : ℕ} {stops : Bool} (raw : RawShape) (seed : ℕ) {S K : Type 0} (left : S → Option (List ℕ)) (taken faults : S → ℕ) (first source rest : S)

@@ -4,7 +4,7 @@ use Rattle.cell_rows.specs.Device.{ArrayState}
 use Rattle.pcm_io.specs.{Faults.Rose, Giving.AppendsPrefix}
 use Rattle.pcm_module.specs.State.{ModuleState}
 use Rattle.row_printer.specs.{Printing.{IsPrinting, Printing, table_told, text_told}, Refusing.any_refused}
-use Rattle.trace_stream.specs.{Asked.{reached_at, tick_named}, Kept.decides, Stream.Standing, declared.asked.Asked.Asked}
+use Rattle.trace_stream.specs.{Asked.{reached_at, tick_named}, Requests.{AsksWhere, LacksRow}, Stream.Standing, declared.asked.Asked.Asked}
 use Rattle.row_stream.specs.{Asking.behind_of, Serving.ServesOn, Sourcing.{GivesNext, HasNoNext, StopsLate}, declared.stop.Behind.Behind, declared.stop.StreamStep.StreamStep}
 use Rattle.row_stream.specs.{declared.stop.StreamStep.TheVariants.{Goes, Ends, Stops}, declared.stop.Stop.Stop, declared.stop.Stop.TheVariants.Output}
 
@@ -74,9 +74,10 @@ pub record Writes {n : ℕ} {K : Type 0} (written : K → Option (List ℕ)) (fa
   pub part : step ≡ Stops Output → (before : Option (List ℕ)) (first : ℕ) → IsPrinting written faults before first out
       → AppendsPrefix before (written now.sink) (text_told now) × Rose first (faults now.sink)
 
--- a source wasn't touched; or the bytes that had arrived decided of no row, and by then all that a printer had been told was written
-abbrev pub AsksBehind : {n : ℕ} {S K : Type 0} (written : K → Option (List ℕ)) (faults : K → ℕ) (source rest : S) (from : Standing) (out : Printing n K) → Type 0
-AsksBehind {n} {S} {K} written faults source rest from out =
+-- a source wasn't touched; or first all that a printer had been told was written, and then it was asked only where what had come decided of no row
+abbrev pub AsksBehind : {n : ℕ} {S K : Type 0} (left : S → Option (List ℕ)) (taken : S → ℕ) (written : K → Option (List ℕ)) (faults : K → ℕ) (source rest : S) (from : Standing) (out : Printing n K) → Type 0
+AsksBehind {n} {S} {K} left taken written faults source rest from out =
     (rest ≡ source)
-    ⊎ ((decides from.state 0 from.arrived.bytes ≡ false) × (by : Printing n K) × TellsNoMore out by
-    × ((before : Option (List ℕ)) (first : ℕ) → IsPrinting written faults before first out → Appends before (written by.sink) (text_told by)))
+    ⊎ ((by : Printing n K) × TellsNoMore out by
+    × ((before : Option (List ℕ)) (first : ℕ) → IsPrinting written faults before first out → Appends before (written by.sink) (text_told by))
+    × (times : ℕ) × (bytes : List ℕ) × AsksWhere left taken (LacksRow from.state from.arrived) source times bytes rest)

@@ -61,7 +61,7 @@ pub fn serve_source<
         (A.state array.new) out.new.rows out.new.told out.new.prints out.new.snapshots)
         × HasStopped (total_of raw) S.left S.taken S.faults source.old source.new asked stop
         × GoesAsFar stop stops asked (told_so_far had)) }
-    // Each time that the source was asked, the rows that had come whole were served, and all that was told was written.
+    // Before each request to the source all rows that had come whole were served, and all that was told was written; it gave a piece at most.
     ensures waits { (raw : RawShape) (seed : ℕ)
         → IsServing raw seed [] pcm.old (A.state array.old) out.old.rows out.old.told out.old.prints
         out.old.snapshots

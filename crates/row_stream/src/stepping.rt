@@ -51,7 +51,8 @@ pub fn take_next<
         (A.state array.new) source.old source.new stream.old stream.new out.old out.new
         behind result }
     ensures writes { Writes K.written K.faults out.old out.new result }
-    ensures waits { AsksBehind K.written K.faults source.old source.new stream.old out.old }
+    ensures waits { AsksBehind S.left S.taken K.written K.faults
+        source.old source.new stream.old out.old }
     ensures wear { (A.state array.new).wear ≡ (A.state array.old).wear }
     ensures never_falls { S.faults source.old ≤ S.faults source.new }
 {
@@ -88,7 +89,8 @@ fn take_given<
         (A.state array.new) source.old source.new stream.old stream.new out.old out.new
         behind result }
     ensures writes { Writes K.written K.faults out.old out.new result }
-    ensures waits { AsksBehind K.written K.faults source.old source.new stream.old out.old }
+    ensures waits { AsksBehind S.left S.taken K.written K.faults
+        source.old source.new stream.old out.old }
     ensures wear { (A.state array.new).wear ≡ (A.state array.old).wear }
     ensures never_falls { S.faults source.old ≤ S.faults source.new }
 {

@@ -1,4 +1,4 @@
-use Rattle.std.proofs.Common.{◌≡◌, ℕ, List, false, [], ◌∷◌, ◌++◌, ap, ◌∙◌}
+use Rattle.std.proofs.Common.{◌≡◌, ℕ, List, false, [], ◌∷◌, ◌++◌, ap, ◌∙◌, arith}
 use Rattle.pcm_module.specs.{Asking.asked_for, State.stand_now}
 use Rattle.row_printer.specs.{declared.told.PeekedLine.PeekedLine, declared.told.Told.TheVariants.{Peeked, Settled}}
 use Rattle.trace_stream.specs.Asked.{events_in}
@@ -9,7 +9,7 @@ pub newest-bytes-requires : goal.newest-bytes-requires
 newest-bytes-requires g c =
     let s = c.requires.serving in
     let led = c.settle.ensures.replays s.serving.history (asked_for (events_in s.before)) s.serving.served.replays in
-    (omega arith, (c.requires.layout, rw c.settle.ensures.shape c.requires.exists, led.1.size))
+    (omega arith, (omega (arith, c.requires.layout.shape.1), (c.requires.layout, (rw c.settle.ensures.shape c.requires.exists, led.1.size))))
 
 pub returns-clause-serves : goal.returns-clause-serves
 returns-clause-serves g c = record {

@@ -1,8 +1,7 @@
 use Rattle.std.proofs.Common.{◌*◌, ◌≤◌, arith}
 use Rattle.module_shape.specs.Limits.{most_array_lines}
-use Rattle.large_image.specs.Views.{head_view}
-use Rattle.large_reader.proofs.Heads.{array_lines-few}
-use Rattle.large_reader.proofs.parts.array_lines.Goals as goal
+use Rattle.pcm_image.{specs.Giving.head_view, proofs.Heads.array_lines-few}
+use Rattle.pcm_image.proofs.standing.array_lines.Goals as goal
 
 pub overflow_mul-result : goal.overflow_mul-result
 overflow_mul-result c =
