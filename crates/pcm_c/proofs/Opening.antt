@@ -1,11 +1,10 @@
 -- From options to a module that begins.
-use Rattle.std.proofs.Common.{◌≡◌, Bool, true, false, ap, inl, inr, refl, subst}
+use Rattle.std.proofs.Common.{◌≡◌, Bool, false, ap, inr, subst}
 use Rattle.std.specs.Prelude.{Option, Some, None, is_some, Result, Ok, Err}
 use Rattle.cell_rows.specs.declared.array.Wear.{Wear}
 use Rattle.module_shape.specs.{Limits.accepted_by, declared.raw.BadShape.BadShape, declared.raw.Field.Field, declared.raw.RawShape.RawShape}
 use Rattle.pcm_c.specs.{Answers.status_number, Opening.{BeginsWith, IsChosen, OpenTold, OpenToldAt, OpensAt, bad_option, open_refusal, raw_of}, declared.held.Held.Held}
 use Rattle.pcm_c.specs.{declared.options.BadOption.BadOption, declared.options.Chosen.Chosen, declared.options.ModuleOptions.ModuleOptions, declared.status.Status.Status}
-use Rattle.pcm_c.specs.declared.status.Status.TheVariants.{Done, Open}
 
 -- the sizes in a result, or these
 abbrev shape-in : RawShape → Result RawShape BadShape → RawShape
@@ -25,21 +24,7 @@ opens o chosen held is begins =
     let shaped = subst (λ (raw : RawShape). BeginsWith right.is_wide raw chosen.wear held) is.shape sized in
     (right, subst (λ (wear : Wear). BeginsWith right.is_wide (raw_of o right.policy right.home) wear held) is.wear shaped)
 
--- what a call to open answers: the handle holds a module already
-pub told-open : (o : ModuleOptions) (handle : Option Held) → true ≡ is_some handle → OpenToldAt o handle (status_number Open)
-told-open o (Some held) is = refl
-told-open o None is = absurd (cc is)
-
--- one was opened
-told-done : (option : Option BadOption) → option ≡ None → OpenTold option (status_number Done)
-told-done None is = inl refl
-told-done (Some option) is = absurd (cc is)
-
-pub told-opened : (o : ModuleOptions) (handle : Option Held) → false ≡ is_some handle → bad_option o ≡ None → OpenToldAt o handle (status_number Done)
-told-opened o (Some held) is right = absurd (cc is)
-told-opened o None is right = told-done (bad_option o) right
-
--- none was
+-- what a call to open answers, where none was opened
 told-why : (option : Option BadOption) (status : Status) → status ≡ open_refusal option → OpenTold option (status_number status)
 told-why None status why = inr (ap status_number why)
 told-why (Some option) status why = ap status_number why

@@ -1,5 +1,5 @@
 use Rattle.std.proofs.Common.{◌≡◌, ◌⊎◌, ◌<◌, ◌≤◌, ◌+◌, ◌∙◌, ℕ, min, inl, inr, refl, sym, ap, arith}
-use Rattle.std.proofs.lemmas.Bool.{cases_eq, cases_lt}
+use Rattle.std.{specs.Prelude.slice_get, proofs.lemmas.Bool.{cases_eq, cases_lt}}
 use Rattle.bank_timing.{specs.Extending.next_end, proofs.Sizes.timed_fits}
 use Rattle.clock_laws.specs.State.{ClockState}
 use Rattle.module_shape.specs.declared.raw.RawShape.{RawShape}
@@ -33,7 +33,7 @@ timed-requires g c =
 pub next_end-requires : goal.next_end-requires
 next_end-requires g c =
     let exists : c.loop-bank.bank < c.args.pcm.now.shape.banks = omega (arith, c.loop-bank-test.true, c.banks-banks.ensures.number, ap (λ (r : RawShape). r.banks) c.shape.ensures.shape) in
-    let at = at-tick c.args.pcm.now.tick _ c.timed.result.now c.timed.ensures (c.requires.settled c.loop-bank.bank exists) in
+    let at = at-tick c.args.pcm.now.tick (slice_get c.args.pcm.now.banks c.loop-bank.bank) c.timed.result.now c.timed.ensures (c.requires.settled c.loop-bank.bank exists) in
     (timed_fits g.row.B g.row.M g.row.E c.requires.layout, omega (arith, at, c.loop-bank.invariant.later, c.requires.in_time))
 
 pub loop-bank-init : goal.loop-bank-init
@@ -57,9 +57,9 @@ loop-bank-preserved g c =
     let own : c.next_end.result ≡ ends bank =
     c.next_end.ensures ∙ ap (λ (k : ClockState g.row.B g.row.M g.row.E). next_end limit k) (sym (at-bank c.args.pcm.now bank clock c.timed.ensures)) in
     record {
-      most = omega (arith, c.min.ensures, before.most);
-      least = λ at below. least-more c.loop-bank.first c.next_end.result c.min.result bank at ends c.min.ensures own before.least below;
-      some = some-more c.loop-bank.first c.next_end.result c.min.result bank c.args.pcm.now.shape.banks limit ends c.min.ensures own exists before.some;
+      most = omega (arith, c.min-first.ensures, before.most);
+      least = λ at below. least-more c.loop-bank.first c.next_end.result c.min-first.result bank at ends c.min-first.ensures own before.least below;
+      some = some-more c.loop-bank.first c.next_end.result c.min-first.result bank c.args.pcm.now.shape.banks limit ends c.min-first.ensures own exists before.some;
       shape = before.shape;
       silent = before.silent;
       later = before.later;
