@@ -34,7 +34,7 @@ const LAST_ROW: u32 = 4_294_967_294;
 
 /// A module over its array, what was heard of its rows, and when the power is to be cut.
 #[derive(Drop)]
-pub(crate) struct Running<
+pub(crate) struct RunningModule<
     const B: usize,
     const M: usize,
     const E: usize,
@@ -46,7 +46,7 @@ pub(crate) struct Running<
     pub(crate) cuts: Cuts,
 }
 
-impl<const B: usize, const M: usize, const E: usize, A: CellArray<B, M> + Drop> Running<
+impl<const B: usize, const M: usize, const E: usize, A: CellArray<B, M> + Drop> RunningModule<
     B,
     M,
     E,

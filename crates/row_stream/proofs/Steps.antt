@@ -10,7 +10,7 @@ use Rattle.row_printer.specs.declared.told.Told.{Told}
 use Rattle.trace_stream.specs.{Asked.reached_at, Kept.decides, Stream.Standing, declared.asked.Asked.Asked}
 use Rattle.row_stream.specs.{Asking.behind_of, Refusing.{EndsBehind, GoesAsFar}, Serving.{IsServing, MayServe, ServesOn, told_before, told_so_far}}
 use Rattle.row_stream.specs.{Sourcing.{GivesNext, HasStopped, IsRead, IsReadTo}, Stepping.{AsksBehind, GoesOn, IsTaken, Rests, Steps, TakesRow, TellsNoMore, Writes}}
-use Rattle.row_stream.specs.{declared.stop.Behind.Behind, declared.stop.Step.Step, declared.stop.Step.TheVariants.{Goes, Ends, Stops}, declared.stop.Stop.Stop}
+use Rattle.row_stream.specs.{declared.stop.Behind.Behind, declared.stop.StreamStep.StreamStep, declared.stop.StreamStep.TheVariants.{Goes, Ends, Stops}, declared.stop.Stop.Stop}
 use Rattle.row_stream.{specs.declared.stop.Stop.TheVariants.Output, proofs.Alike.told-same, proofs.Refusals.{ends-all, ends-there, still-none}}
 use Rattle.row_stream.proofs.Rows.{HasFed, far-late, far-no-next, fed-come, fed-ended, fed-given, fed-late, fed-no-next, fed-same, fed-so-far, next-few}
 
@@ -49,7 +49,7 @@ module _ {n m e : ℕ} {K : Type 0} (old new : ModuleState n m e) (before after 
 
 module _ {n m e : ℕ} {K : Type 0} (stops : Bool) (old new : ModuleState n m e) (before after : ArrayState n m) (out mid now : Printing n K) (row : Asked n) where
   -- a row was served, and then the stream goes on or doesn't
-  pub takes-then : (behind : Behind) (step : Step) → ServesOn (λ earlier. reached_at new.tick row) old new before after out mid → TellsNoMore mid now
+  pub takes-then : (behind : Behind) (step : StreamStep) → ServesOn (λ earlier. reached_at new.tick row) old new before after out mid → TellsNoMore mid now
       → ((earlier : List (Asked n)) → behind ≡ behind_of (row ∷ earlier)) → GoesOn behind (stops && any_refused (table_told now)) step → TakesRow stops old new before after out now row step
   takes-then behind (Goes stands) serves same is goes = record { serves = serves-then old new before after (λ earlier. reached_at new.tick row) out mid now serves same; stands = λ earlier. goes.0 ∙ is earlier; refused = goes.1 }
   takes-then behind (Ends stands) serves same is goes = record { serves = serves-then old new before after (λ earlier. reached_at new.tick row) out mid now serves same; stands = λ earlier. goes.0 ∙ is earlier; refused = goes.1 }
@@ -60,7 +60,7 @@ module _ {n m e : ℕ} {K : Type 0} (stops : Bool) (old new : ModuleState n m e)
   taken-behind behind ended same is = record { serves = serves-behind old new before after (λ earlier. reached_at new.tick row) out mid now same is.serves; stands = is.stands; refused = is.refused }
 
   -- a row was taken by a printer that had been told nothing more before
-  pub takes-behind : (step : Step) → TellsNoMore out mid → TakesRow stops old new before after mid now row step → TakesRow stops old new before after out now row step
+  pub takes-behind : (step : StreamStep) → TellsNoMore out mid → TakesRow stops old new before after mid now row step → TakesRow stops old new before after out now row step
   takes-behind (Goes behind) same is = taken-behind behind false same is
   takes-behind (Ends behind) same is = taken-behind behind true same is
   takes-behind (Stops stop) same (inl is) =
@@ -88,7 +88,7 @@ module _ {n : ℕ} {K : Type 0} (written : K → Option (List ℕ)) (faults : K 
   }
 
   -- what is printed by a step behind what was printed before it
-  pub writes-behind : (mid now : Printing n K) (step : Step) → mid.prints ≡ out.prints
+  pub writes-behind : (mid now : Printing n K) (step : StreamStep) → mid.prints ≡ out.prints
       → ((before : Option (List ℕ)) (first : ℕ) → IsPrinting written faults before first out → IsPrinting written faults before first mid)
       → Writes written faults mid now step → Writes written faults out now step
   writes-behind mid now step prints printing writes = record {

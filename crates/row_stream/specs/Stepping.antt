@@ -5,8 +5,8 @@ use Rattle.pcm_io.specs.{Faults.Rose, Giving.AppendsPrefix}
 use Rattle.pcm_module.specs.State.{ModuleState}
 use Rattle.row_printer.specs.{Printing.{IsPrinting, Printing, table_told, text_told}, Refusing.any_refused}
 use Rattle.trace_stream.specs.{Asked.{reached_at, tick_named}, Kept.decides, Stream.Standing, declared.asked.Asked.Asked}
-use Rattle.row_stream.specs.{Asking.behind_of, Serving.ServesOn, Sourcing.{GivesNext, HasNoNext, StopsLate}, declared.stop.Behind.Behind, declared.stop.Step.Step}
-use Rattle.row_stream.specs.{declared.stop.Step.TheVariants.{Goes, Ends, Stops}, declared.stop.Stop.Stop, declared.stop.Stop.TheVariants.Output}
+use Rattle.row_stream.specs.{Asking.behind_of, Serving.ServesOn, Sourcing.{GivesNext, HasNoNext, StopsLate}, declared.stop.Behind.Behind, declared.stop.StreamStep.StreamStep}
+use Rattle.row_stream.specs.{declared.stop.StreamStep.TheVariants.{Goes, Ends, Stops}, declared.stop.Stop.Stop, declared.stop.Stop.TheVariants.Output}
 
 -- a printer was told nothing more
 pub record TellsNoMore {n : ℕ} {K : Type 0} (out now : Printing n K) : Type 0 where
@@ -36,7 +36,7 @@ module _ {n m e : ℕ} {K : Type 0} (stops : Bool) (old new : ModuleState n m e)
     pub late : StopsLate now.rows stop
 
   -- the row was served; or it comes too late; or it was served and refused, and then the output failed
-  abbrev pub TakesRow : Asked n → Step → Type 0
+  abbrev pub TakesRow : Asked n → StreamStep → Type 0
   TakesRow row (Goes behind) = IsTaken row behind false
   TakesRow row (Ends behind) = IsTaken row behind true
   TakesRow row (Stops stop) = ComesLate row stop ⊎ ((stop ≡ Output) × (behind : Behind) × IsTaken row behind true)
@@ -45,29 +45,29 @@ module _ {n m e : ℕ} {K : Type 0} (stops : Bool) (old new : ModuleState n m e)
 module _ {n m e : ℕ} {S K : Type 0} (left : S → Option (List ℕ)) (taken faults : S → ℕ) (stops : Bool) (old new : ModuleState n m e) (before after : ArrayState n m)
     (source rest : S) (from onto : Standing) (out now : Printing n K) (behind : Behind) where
   -- no row is left, and the module stands as before; or none could be had
-  abbrev pub HasNoRow : Step → Type 0
+  abbrev pub HasNoRow : StreamStep → Type 0
   HasNoRow (Goes stands) = ⊥
   HasNoRow (Ends stands) = GivesNext {n = n} left taken faults source rest from onto None × (stands ≡ behind)
   HasNoRow (Stops stop) = HasNoNext n left taken faults source rest from onto stop
 
   -- the next row was taken, or there was none
-  abbrev pub Steps : Step → Type 0
+  abbrev pub Steps : StreamStep → Type 0
   Steps step =
       ((row : Asked n) × GivesNext left taken faults source rest from onto (Some row) × TakesRow stops old new before after out now row step)
       ⊎ (Rests old new before after out now × HasNoRow step)
 
 -- behind a row the stream goes on, or it ends there, at a refusal, unless the output fails
-abbrev pub GoesOn : Behind → (refused : Bool) → Step → Type 0
+abbrev pub GoesOn : Behind → (refused : Bool) → StreamStep → Type 0
 GoesOn behind refused (Goes stands) = (stands ≡ behind) × (refused ≡ false)
 GoesOn behind refused (Ends stands) = (stands ≡ behind) × (refused ≡ true)
 GoesOn behind refused (Stops stop) = (stop ≡ Output) × (refused ≡ true)
 
 -- a stream doesn't go on behind a step, and its output didn't fail
-abbrev pub IsWritten : Step → Type 0
+abbrev pub IsWritten : StreamStep → Type 0
 IsWritten step = (step ≢ Stops Output) × ((behind : Behind) → step ≢ Goes behind)
 
 -- what is printed as a stream takes a step: all that was told, where the stream doesn't go on, and a part of it where the output failed
-pub record Writes {n : ℕ} {K : Type 0} (written : K → Option (List ℕ)) (faults : K → ℕ) (out now : Printing n K) (step : Step) : Type 0 where
+pub record Writes {n : ℕ} {K : Type 0} (written : K → Option (List ℕ)) (faults : K → ℕ) (out now : Printing n K) (step : StreamStep) : Type 0 where
   pub prints : now.prints ≡ out.prints
   pub printing : (before : Option (List ℕ)) (first : ℕ) → IsPrinting written faults before first out → IsPrinting written faults before first now
   pub whole : IsWritten step → (before : Option (List ℕ)) (first : ℕ) → IsPrinting written faults before first out → Appends before (written now.sink) (text_told now)

@@ -2,7 +2,7 @@ use Rattle.std.proofs.Common.{◌≡◌, ◌∙◌, [], ℕ, zero, Err, ap, sym,
 use Rattle.module_shape.specs.Limits.{total_of}
 use Rattle.trace_stream.specs.Stream.{Opens}
 use Rattle.trace_stream.specs.declared.fault.StreamFault.TheVariants as fault
-use Rattle.row_stream.specs.{Serving.{IsServing, told_so_far}, declared.stop.Step.TheVariants.Stops, declared.stop.Stop.TheVariants.Output}
+use Rattle.row_stream.specs.{Serving.{IsServing, told_so_far}, declared.stop.StreamStep.TheVariants.Stops, declared.stop.Stop.TheVariants.Output}
 use Rattle.row_stream.proofs.{Refusals.{may-go-on, none-first, went-first}, Rows.{come-none, fed-come, fed-first, fed-same, next-few, open-stopped}}
 use Rattle.row_stream.proofs.{Steps.{step-ends, step-goes, step-stops}, Telling.{tells-header, tells-more}}
 use Rattle.row_stream.proofs.reading.serve_source.Goals as goal
