@@ -23,8 +23,8 @@ from words import sectors_of  # noqa: E402
 HEADER = "tick,op,arg,data\n"
 LAST_TICK = 2**40
 DEFAULTS = {
-    "banks": "8", "regions": "1", "lines": "64", "line": "64", "spares": "8", "seed": "0", "sector": "4096", "write-queue": "32", "read-queue": "32", "psi": "100",
-    "lo": "100000000", "hi": "100000000", "registers": "guarded",
+    "banks": "4", "regions": "2", "lines": "64", "line": "64", "spares": "8", "seed": "0", "sector": "4096", "write-queue": "32", "read-queue": "32", "psi": "100",
+    "lo": "100000000", "hi": "100000000", "registers": "guarded", "policy": "pause",
 }
 NOT_THE_MODULES = ("sector", "cuts", "cut-every", "cut-seed", "cut-ticks", "on-cut")
 
@@ -188,6 +188,7 @@ class Player:
         self.place: Dict[int, Tuple[int, str]] = {}
         self.stopped: Set[Tuple[int, str]] = set()
         self.sent: Deque[str] = collections.deque([HEADER])
+        self.number = 0  # of the last row
 
     def settle(self, row: str) -> int:
         """Sends what is to be sent, and answers the tick at which the module stands behind a row that settles."""
@@ -215,17 +216,17 @@ class Player:
             tick = reached
         return tick
 
-    def play(self, rows: Iterator[Tuple[int, Row]], trace: IO[str], number: int = 0) -> int:
+    def play(self, rows: Iterator[Tuple[int, Row]], trace: IO[str]) -> int:
         """Writes rows, each with the tick before which it doesn't come, into a trace; the last one's tick."""
         late, tick = 0, 0
-        for number, (wanted, row) in enumerate(rows, number + 1):
-            tick = wanted + late
+        for wanted, row in rows:
+            self.number, tick = self.number + 1, wanted + late
             if row.op != "C":
                 here = self.bank(row.line), "R" if row.op == "R" else "W"
                 reached = self.makes_room(here, tick)
                 late, tick = late + reached - tick, reached
-                self.waits[here][number] = None
-                self.place[number] = here
+                self.waits[here][self.number] = None
+                self.place[self.number] = here
             if tick > LAST_TICK - 2000000:
                 raise Fault("the log lasts beyond the last tick, 2^40")
             text = row.at(tick)
