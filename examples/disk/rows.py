@@ -183,7 +183,7 @@ class Player:
     def __init__(self, pcm: str, options: Dict[str, str]) -> None:
         self.process = subprocess.Popen([pcm, "stream", *of_module(options)], text=True, stdin=subprocess.PIPE, stdout=subprocess.PIPE)
         layout, self.room = Layout({"sector": "4096", **options}), {"W": int(options["write-queue"]), "R": int(options["read-queue"])}
-        self.bank = lambda line: layout.place(line)[0]
+        self.layout = layout
         self.waits: Dict[Tuple[int, str], Dict[int, None]] = collections.defaultdict(dict)
         self.place: Dict[int, Tuple[int, str]] = {}
         self.stopped: Set[Tuple[int, str]] = set()
@@ -222,7 +222,7 @@ class Player:
         for wanted, row in rows:
             self.number, tick = self.number + 1, wanted + late
             if row.op != "C":
-                here = self.bank(row.line), "R" if row.op == "R" else "W"
+                here = self.layout.place(row.line)[0], "R" if row.op == "R" else "W"
                 reached = self.makes_room(here, tick)
                 late, tick = late + reached - tick, reached
                 self.waits[here][self.number] = None

@@ -165,9 +165,9 @@ class Serving(Relays):
     def test_requests_that_are_refused(self) -> None:
         self.start()
         it = self.peer()
-        for asked, error in (((READ, SIZE, 1), frames.EINVAL), ((READ, 0, 0), frames.EINVAL), ((READ, 0, 2**32 - 1), frames.EINVAL),
-                             ((frames.WRITE, SIZE - 1, 2, b"ab"), frames.NO_SPACE), ((7, 0, 1), frames.EINVAL)):
-            self.assertEqual(it.asks(*asked), (error, b""), asked)
+        for command, at, size in ((READ, SIZE, 1), (READ, 0, 0), (READ, 0, 2**32 - 1), (7, 0, 1)):
+            self.assertEqual(it.asks(command, at, size), (frames.EINVAL, b""), (command, at, size))
+        self.assertEqual(it.write(SIZE - 1, b"ab"), frames.NO_SPACE)
         with self.assertRaises(EOFError):
             it.asks(frames.LEAVE)
         self.assertEqual(self.peer().all(), bytes(SIZE))
