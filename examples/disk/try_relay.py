@@ -2,6 +2,7 @@
 """The relay of `pcm disk`: its exports, cuts that are told and ridden, commands, logs, the volatile cache, ends, words; and the rows of a log.
 
     PCM=./pcm try_relay.py -v"""
+import math
 import os
 import pathlib
 import random
@@ -20,6 +21,7 @@ import frames
 import recorded
 import rows
 from frames import IO, READ, Reply, option
+from words import Words
 
 PCM = os.environ.get("PCM", "./pcm")
 RELAY = pathlib.Path(__file__).resolve().parent / "relay.py"
@@ -93,8 +95,10 @@ class Relays(unittest.TestCase):
         self.process: "subprocess.Popen[str]"
 
     def start(self, *words: str) -> None:
-        """A relay."""
-        self.process = subprocess.Popen([sys.executable, RELAY, self.sock, f"pcm={PCM}", f"report={self.room / 'report'}", *SMALL, *words],
+        """A relay of a small disk, but for what is said."""
+        said = [word.partition("=")[0] for word in words]
+        small = [it for it in SMALL if it.partition("=")[0] not in said]
+        self.process = subprocess.Popen([sys.executable, RELAY, self.sock, f"pcm={PCM}", f"report={self.room / 'report'}", *small, *words],
                                         stderr=subprocess.PIPE, text=True)
         while not self.sock.exists() and self.process.poll() is None:
             time.sleep(0.01)
@@ -427,12 +431,14 @@ class Ends(Relays):
             self.assertEqual(subprocess.run([RELAY, "-", f"pcm={PCM}", "--run", command], timeout=60).returncode, status)
 
     def test_sizes(self) -> None:
-        for words, size in ((["size=1M"], None), (["banks=2", "regions=2", "lines=256", "sector=16K"], None), (["size=64K", "line=64", "sector=64"], None)):
-            given = [it for it in SMALL if it.partition("=")[0] not in {word.partition("=")[0] for word in words} and not ("size" in words[0] and it[0] in "rl")]
-            self.process = subprocess.Popen([sys.executable, RELAY, self.sock, f"pcm={PCM}", "on-cut=ask", *given, *words], stderr=subprocess.PIPE, text=True)
+        for given, least in ((["size=1M"], 1 << 20), (["banks=2", "regions=2", "lines=256", "line=64", "sector=16K"], 0), (["size=64K", "line=64", "sector=64"], 1 << 16)):
+            asked = Words(given)
+            shape = [asked.number(it, 0) for it in ("banks", "regions", "lines", "line")]
+            self.assertTrue(least <= math.prod(shape) < 2 * least or not least, shape)
+            self.process = subprocess.Popen([sys.executable, RELAY, self.sock, f"pcm={PCM}", *given], stderr=subprocess.PIPE, text=True)
             while not self.sock.exists() and self.process.poll() is None:
                 time.sleep(0.01)
-            self.assertGreater(self.peer().size, 0)
+            self.assertEqual(self.peer().size, asked.sectors() * asked.number("sector", 4096))
             self.assertEqual(self.end(), (0, ""))
 
     def test_words_that_are_refused(self) -> None:
