@@ -6,7 +6,7 @@
                                 lead on, and in a copy of it each recipe works as it is written; sentences of USING.md name pcm, not ./pcm
     share/man/man1/             pcm.1, pcm-stream.1, pcm-explain.1, pcm-view.1, pcm-disk.1 and pcm-parts.1
     share/bash-completion/completions/pcm, share/zsh/site-functions/_pcm
-    include/                    pcm_stream.h, pcm_disk.h and their like, for drivers in C and C++, and for SystemC
+    include/                    pcm_stream.h and its like, for drivers in C and C++, and for SystemC
     bin/cut-firmware            with lib/pcm/pcm_copy.so and cut-firmware.1, where they could be built
     lib/                        libpcm.a, libpcm.so and pkgconfig/pcm.pc, by which programs in C link the module, where they could be built
     share/pcm/sv/               for SystemVerilog"""

@@ -656,7 +656,7 @@ class Installed(unittest.TestCase):
     def test_what_drivers_include_is_there_and_no_test(self):
         there = {str(it.relative_to(self.prefix)) for folder in ("include", "share/pcm/sv") for it in (self.prefix / folder).iterdir()}
         self.assertEqual(there, {f"include/{it.name}" for it in (TOP / "c").glob("pcm*.h")} | {f"share/pcm/sv/pcm_{it}" for it in ("dpi.sv", "dpi.c", "mem.sv")})
-        self.assertLessEqual({"include/pcm_stream.h", "include/pcm_disk.h", "include/pcm_tlm.h", "include/pcm_tlm_at.h"}, there)
+        self.assertLessEqual({"include/pcm_stream.h", "include/pcm_tlm.h", "include/pcm_tlm_at.h"}, there)
 
     @unittest.skipUnless(HAS_COMPILER, "there is no cc, or no ar")
     def test_programs_in_c_link_the_library_both_ways(self):
@@ -1149,7 +1149,7 @@ class Tested(unittest.TestCase):
         (self.top / "crates" / "pcm_c" / "out").mkdir(parents=True)
         (self.top / "crates" / "pcm_c" / "out" / "libpcm.so.1").touch()
         files = [f"crates/{name}/out/{name}" for name in PROGRAMS]
-        told = [f"documents: {files[0]}", f"examples: {' '.join(f'({it})' for it in files[:4])}", f"disk: {files[4]}", "tools/test: wrong bodies of wrong/: 1 crates to be tried: low"]
+        told = [f"documents: {files[0]}", f"examples: {' '.join(f'({it})' for it in files[:4])}", f"disk: {files[4]} {files[1]}", "tools/test: wrong bodies of wrong/: 1 crates to be tried: low"]
         library = f"library: {files[1]}"
         self.says(library, *told, "17 passed, 0 failed")
         (self.top / "crates" / "low" / "src" / "lib.rt").write_text("")

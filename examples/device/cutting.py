@@ -8,6 +8,7 @@ import time
 
 from disks import Disk
 from servers import asking, run, whole
+from recorded import count
 
 
 class Wrong(Exception):
@@ -34,22 +35,6 @@ def asking_to_cut(about, cuts, most):
     return ask
 
 
-def rows_of(log, since=(0, 0)):
-    """How many rows a log has, and its bytes; `since` is what this answered earlier."""
-    rows, at = since
-    with open(log, "rb") as file:
-        file.seek(at)
-        while piece := file.read(1 << 20):
-            rows += piece.count(b"\n")
-            at += len(piece)
-    return rows, at
-
-
-def writes_of(told):
-    """How many lines were written, by what the disk tells."""
-    return sum(told[it] for it in ("stored", "merged", "waiting"))
-
-
 class Cutter:
     """A disk, and the cuts under software on it: `server` serves it, as a Disk where --mkfs says what is mounted of it."""
 
@@ -57,9 +42,9 @@ class Cutter:
         self.server, self.words = server, words
         self.mount = ["mount", *(["-o", words.options] if words.options else [])] if words.mkfs else None
         self.draw = random.Random(words.seed)
-        self.lines = (0, 0)
+        self.logged = ()
         self.counts = dict(cuts=0, by_hand=0, in_recovery=0)
-        self.ticks = self.writes = 0  # of the work, up to its cuts
+        self.writes = self.written_bytes = 0  # of the work, up to its cuts
 
     def make(self):
         """A new file system, mounted."""
@@ -81,9 +66,9 @@ class Cutter:
             self.server.detach()
 
     def row(self):
-        """The last row of the log (the first behind its header is row 1): a cut, where one came last."""
-        self.lines = rows_of(self.server.log, self.lines)
-        return self.lines[0] - 1
+        """The last request of the log (the first is 1)."""
+        self.logged = (count(self.server.log, *self.logged),)
+        return self.logged[0][0]
 
     def ask_for_a_cut(self):
         most = self.words.most or (200 if self.words.between else self.words.ticks)
@@ -92,7 +77,7 @@ class Cutter:
     def pull(self, before):
         """The plug is pulled by hand; and what was asked for doesn't come any more."""
         self.counts["by_hand"] += 1
-        self.server.control("cut 0 requests" if self.words.between else f"wait {self.words.most or self.words.ticks}")
+        self.server.control("cut off")
         if self.server.control()["cut"] == before:
             self.server.control("cut")
 
@@ -110,8 +95,8 @@ class Cutter:
                 self.pull(before)
             time.sleep(0.02)
         self.counts["cuts"] += told["cut"] - before
-        self.ticks += told["tick"] - since["tick"]
-        self.writes += writes_of(told) - writes_of(since)
+        self.writes += told["writes"] - since["writes"]
+        self.written_bytes += told["written_bytes"] - since["written_bytes"]
         return process
 
     def recover(self):
@@ -124,7 +109,7 @@ class Cutter:
                     self.server.control(f"cut {self.draw.randrange(1, self.words.recovery + 1)}")
                     self.mount_it()
                     run("umount", self.server.mount)
-                    self.server.control(f"wait {self.words.recovery}")
+                    self.server.control("cut off")
                 self.mount_it()
                 return
             except RuntimeError as error:

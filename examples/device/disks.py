@@ -1,4 +1,4 @@
-"""A disk on a module as a mounted file system, for the scripts of this folder: nbdkit serves it, nbdfuse shows it as a file, a loop device makes
+"""A disk on a module as a mounted file system, for the scripts of this folder: nbdfuse shows it as a file, a loop device makes
 a block device of that, and the kernel mounts it. So it needs root, /dev/fuse, loop devices and ext4 in the kernel; and of Debian, beside what
 servers.py needs, libnbd-bin, nbdfuse, fuse3 and e2fsprogs."""
 import os
@@ -18,13 +18,13 @@ def mounted(place):
 class Disk(Server):
     """A server of a disk, and what is mounted of it."""
 
-    def __init__(self, pcm, parameters, plugin=None, log=None, copies=False):
+    def __init__(self, pcm, parameters, log=None, cuts=False):
         need({"nbdfuse": "nbdfuse", "fusermount3": "fuse3", "nbdcopy": "libnbd-bin", "mkfs.ext4": "e2fsprogs", "losetup": "mount"})
         if os.geteuid() != 0:
             print(f"{os.path.basename(sys.argv[0])}: it mounts a file system, which needs root", file=sys.stderr)
             sys.exit(77)
         self.fuse = self.loop = None
-        super().__init__(pcm, parameters, plugin, log, copies)
+        super().__init__(pcm, parameters, log, cuts)
         self.file, self.mount = self.dir / "disk", self.dir / "mnt"
         self.file.touch()
         self.mount.mkdir()

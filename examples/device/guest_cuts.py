@@ -1,12 +1,12 @@
 #!/usr/bin/python3
-"""A machine whose only disk is a module: Linux in qemu, SQLite on ext4 on /dev/vda; the power is cut (of a relay: also as it boots), the machine killed,
+"""A machine whose only disk is a module: Linux in qemu, SQLite on ext4 on /dev/vda; the power is cut (with on-cut=drop also as it boots), the machine killed,
 booted again and checked.
 
     guest_cuts.py PCM [--cycles N] [--seed X] [--mode delete|wal] [--sync full|extra] [--most-ticks N] [KEY=VALUE ..]
 
 It needs no root; of Debian what servers.py names, libnbd-bin, e2fsprogs, qemu-system-x86, linux-image-amd64 (or -cloud-amd64), busybox-static,
 sqlite3, cpio and kmod. In each boot the data base must be whole, with all transactions that were committed before the cut and at most one more.
-Reports the rows that each boot found, and the module's counts."""
+Reports the rows that each boot found, and the disk's counts."""
 import atexit
 import collections
 import glob
@@ -118,7 +118,7 @@ def main():
     need({"qemu-system-x86_64": "qemu-system-x86", "busybox": "busybox-static", "sqlite3": "sqlite3", "cpio": "cpio", "modprobe": "kmod"})
     if not glob.glob("/boot/vmlinuz-*"):
         fails("there is no kernel in /boot (Debian: apt-get install linux-image-amd64)", 77)
-    disk, draw, begun, last = Server(words.pcm, words.parameters, words.plugin), random.Random(words.seed), time.time(), 0
+    disk, draw, begun, last = Server(words.pcm, words.parameters, cuts=True), random.Random(words.seed), time.time(), 0
     kernel = initramfs(disk.dir, words)
     uri = disk.must_run().uri()
     with open(disk.dir / "image", "wb") as file:
@@ -137,7 +137,7 @@ def main():
             print(f"boot {cycle} at {time.time() - begun:.0f} s: whole, {found} rows, {before} were committed", flush=True)
             is_over = cycle >= words.cycles
             if not is_over:
-                disk.cut_in(draw.randrange(1, words.most_ticks + 1))
+                disk.control(f"cut {draw.randrange(1, words.most_ticks + 1)}")
             return is_over
 
         qemu = boot(disk, kernel, words.accel)
@@ -151,7 +151,7 @@ def main():
             sys.exit(f"boot {cycle} ended, and no power cut came: {''.join(said)}")
         cycle += 1
     told = disk.end()
-    print("module:", told)
+    print("disk:", told)
     print(f"all right: {told['cut']} cuts, {last} transactions")
 
 

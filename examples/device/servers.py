@@ -1,18 +1,19 @@
-"""A server of a disk on a module, for the scripts of this folder. It needs, of Debian, nbdkit, nbdkit-plugin-dev, python3-libnbd, make and gcc, and
-the system's python3; with ../disk/relay.py as its plugin nbdkit-plugin-python in place of nbdkit-plugin-dev, make and gcc."""
+"""A disk on a module, for the scripts of this folder: `pcm disk` behind ../disk/relay.py. It needs, of Debian, python3-libnbd, and the system's python3."""
 import argparse
 import atexit
 import os
 import pathlib
 import shutil
 import signal
-import socket
 import subprocess
 import sys
 import tempfile
 import time
 
 TOP = pathlib.Path(__file__).resolve().parent.parent.parent
+RELAY = TOP / "examples" / "disk" / "relay.py"
+sys.path.append(str(RELAY.parent))  # (from here on its modules are found)
+import recorded  # noqa: E402
 
 
 def run(*words, ok=(0,)):
@@ -50,12 +51,11 @@ def whole(least, most=2**40):
 
 
 def asking(about, *names):
-    """The words that each script takes: the program, what else it names, the module's and the disk's parameters, and a plugin that was built before."""
+    """The words that each script takes: the program, what else it names, and the module's and the disk's parameters."""
     ask = argparse.ArgumentParser(description=about, formatter_class=argparse.RawDescriptionHelpFormatter)
     for name in ("pcm", *names):
         ask.add_argument(name)
     ask.add_argument("parameters", nargs="*", default=[], metavar="KEY=VALUE")
-    ask.add_argument("--plugin", help="one that was built before; or by what `PCM disk` serves, with its options: examples/disk/relay.py, or nbd")
     return ask
 
 
@@ -71,75 +71,48 @@ def asking_of_cuts(about, cycles):
 
 
 def numbers(text):
-    """What the control export and a report say: numbers by their words."""
+    """What the export `cut` and a report say: numbers by their words."""
     return {key: int(value) for key, value in (line.split() for line in text.split("\n") if line)}
 
 
-def options_of(log):
-    """What a disk was served with, by the file beside its log: the words of its module, and the disk's own by their names."""
+def parameters_of(log):
+    """What a disk was served with, by its log: its options as parameters."""
     try:
-        with open(f"{log}.args", encoding="ascii") as file:
-            module, disk = (line.split() for line in file.read().splitlines()[:2])
-    except (OSError, ValueError) as error:
-        fails(f"{log}.args: {error}: it should have the options of {log}, in two lines")
-    return module, dict(zip(disk[::2], disk[1::2]))
-
-
-def built(folder):
-    """The plugin of this checkout, built into a folder."""
-    run("make", "-s", "-C", TOP / "c", f"OUT={folder}")
-    return pathlib.Path(folder, "nbdkit-pcm-plugin.so")
+        words = recorded.options_of(log)
+    except recorded.Fault as fault:
+        fails(fault)
+    return [f"{name[2:]}={value}" for name, value in zip(words[::2], words[1::2])]
 
 
 class Server:
     """It lives in a folder of its own, which goes away with the script, as the server does."""
 
-    def __init__(self, pcm, parameters, plugin=None, log=None, copies=False):
-        """`log`: a file of the caller's, or True for one in the server's folder. `copies`: it goes from row to row of its log."""
-        self.tells, self.is_relay = plugin != "nbd", plugin == "nbd" or str(plugin).endswith(".py")
-        need({"nbdkit": "nbdkit", **({} if self.is_relay else {"make": "make", "gcc": "gcc"})})
+    def __init__(self, pcm, parameters, log=None, cuts=False):
+        """`log`: a file of the caller's, or True for one in the server's folder. `cuts`: cuts will be asked for."""
+        need({})
         self.dir = pathlib.Path(tempfile.mkdtemp(prefix="pcm-device-"))
-        self.process, self.program, self.open = None, None, []
+        self.process, self.open = None, []
         atexit.register(self.leave)
         for number in (signal.SIGTERM, signal.SIGHUP):
             signal.signal(number, lambda *_: sys.exit(1))
-        if plugin is None:
-            plugin = built(self.dir)
-        if copies:
-            run("make", "-s", "-C", TOP / "c", "copies", f"OUT={self.dir}")
-            parameters = [*parameters, f"copies={self.dir / 'pcm_copy.so'}"]
-        self.sock, self.report, ready = self.dir / "sock", self.dir / "report", self.dir / "pid"
-        pcm = pcm if "/" not in str(pcm) else os.path.abspath(pcm)
+        self.sock, self.report = self.dir / "sock", self.dir / "report"
+        words = [f"pcm={pcm if '/' not in str(pcm) else os.path.abspath(pcm)}", f"report={self.report}", *parameters]
         if log:
-            self.log = self.dir / "log.csv" if log is True else pathlib.Path(log).absolute()
-            parameters = [*parameters, f"log={self.log}"]
-        nbdkit = ["nbdkit", "-f", "-U", self.sock, "-P", ready]
+            self.log = self.dir / "log" if log is True else pathlib.Path(log).absolute()
+            words.append(f"log={self.log}")
+        if cuts and not any(it.startswith("on-cut=") for it in parameters):
+            words.append("on-cut=ask")
         with open(self.dir / "said", "w") as said:
-            if self.tells:
-                words = [*["python"] * self.is_relay, plugin, f"pcm={pcm}", *parameters, f"report={self.report}"]
-                self.process = subprocess.Popen([*nbdkit, *words], stderr=said)
-            else:
-                self.process = self.relay([pcm, "disk", *(word for it in parameters for word in f"--{it}".split("=", 1))], nbdkit, said)
-        while not ready.exists() and self.process.poll() is None:
+            self.process = subprocess.Popen([sys.executable, RELAY, self.sock, *words], stderr=said)
+        while not self.sock.exists() and self.process.poll() is None:
             time.sleep(0.01)
-
-    def relay(self, words, nbdkit, said):
-        """nbdkit's own relay, before a program that serves its one client."""
-        ours, its = socket.socketpair()
-        with ours, its:
-            self.program = subprocess.Popen(words, stdin=its, stdout=its, stderr=said)
-            return subprocess.Popen([*nbdkit, "nbd", "shared=true", f"socket-fd={ours.fileno()}"], stderr=said, pass_fds=[ours.fileno()])
 
     def said(self):
         return (self.dir / "said").read_text()
 
     def must_run(self):
         """Where the program couldn't be started, or its log is refused, the script ends with what was said."""
-        import nbd
-        try:
-            self.control()
-        except nbd.Error:
-            self.process.wait(30)
+        if self.process.poll() is not None:
             sys.exit(self.said())
         return self
 
@@ -149,26 +122,21 @@ class Server:
     def connect(self, export=""):
         import nbd
         it = nbd.NBD()
-        it.connect_uri(self.uri(export)) # (the server listens from its start on, and answers once the program has been started)
+        it.connect_uri(self.uri(export))
         self.open.append(it)
         return it
 
     def control(self, text=None):
-        """Gives the control export a word, and answers what it tells; nbdkit's own relay tells nothing."""
-        it = self.connect("control")
+        """Gives the export `cut` a word, and answers what it tells."""
+        it = self.connect("cut")
         if text:
             it.pwrite(text.encode(), 0)
-        told = it.pread(4096, 0).decode() if self.tells else ""
+        told = it.pread(4096, 0).decode()
         self.open.pop().shutdown()
         return numbers(told)
 
-    def cut_in(self, ticks):
-        """Asks for a power cut; a relay's program has drawn its own when it began (cuts=N cut-every=T)."""
-        if not self.is_relay:
-            self.control(f"cut {ticks}")
-
     def through_cuts(self, act):
-        """What an act answers amid which no power cut came: until then it is done again."""
+        """What an act answers amid which no power cut was told: until then it is done again."""
         while True:
             before = self.control()["cut"]
             try:
@@ -181,7 +149,7 @@ class Server:
                     return answer
 
     def stop(self):
-        """Ends it: it waits for its connections to be closed, so they are."""
+        """Ends it."""
         for it in self.open:
             try:
                 it.shutdown()
@@ -195,10 +163,6 @@ class Server:
             except subprocess.TimeoutExpired:
                 self.process.kill()
                 self.process.wait()
-
-    def kill(self):
-        self.process.kill()
-        self.process.wait()
 
     def end(self):
         """Ends it, and answers its report."""

@@ -1,10 +1,9 @@
 #!/usr/bin/python3
-"""What a request costs in processor time, in nbdkit with its plugin (--plugin nbd: its relay, over `PCM disk`) and in the program: writes and then reads
-of blocks, one at a time, at drawn places.
+"""What a request costs in processor time, in the relay and in the program: writes and then reads of blocks, one at a time, at drawn places.
 
     speed.py PCM [--requests N] [--size BYTES] [KEY=VALUE ..]
 
-Prints, for each, microseconds (user and system), rows, ticks, and how often the program was waited for. It needs what servers.py names."""
+Prints, for each, microseconds (user and system). It needs what servers.py names."""
 import os
 import pathlib
 import random
@@ -22,21 +21,18 @@ def seconds(process):
 
 def program_of(server):
     """The process of the program, which the server's has started."""
-    if server.program:
-        return server.program.pid
     (child,) = pathlib.Path(f"/proc/{server.process.pid}/task/{server.process.pid}/children").read_text().split()
     return int(child)
 
 
 def measure(server, words, kind, act):
     processes = [server.process.pid, program_of(server)]
-    before, told = [seconds(it) for it in processes], server.control()
+    before = [seconds(it) for it in processes]
     for _ in range(words.requests):
         act()
-    after, last = [seconds(it) for it in processes], server.control()
+    after = [seconds(it) for it in processes]
     each = [1e6 * (to - since) / words.requests for since, to in zip(before, after)]
-    counts = [(last[it] - told[it]) / words.requests for it in ("rows", "tick", "settles") if it in told]
-    print(kind, words.size, words.requests, *(f"{it:.1f}" for it in (*each, sum(each), *counts)), sep=",", flush=True)
+    print(kind, words.size, words.requests, *(f"{it:.1f}" for it in (*each, sum(each))), sep=",", flush=True)
 
 
 def main():
@@ -44,13 +40,13 @@ def main():
     ask.add_argument("--requests", type=whole(1), default=10000)
     ask.add_argument("--size", type=whole(1, 2**25), default=4096)
     words = ask.parse_intermixed_args()
-    with Server(words.pcm, words.parameters, words.plugin) as server:
+    with Server(words.pcm, words.parameters) as server:
         disk, draw = server.must_run().connect(), random.Random(1)
         blocks = disk.get_size() // words.size
         if blocks == 0:
             ask.error(f"--size {words.size}: the disk has {disk.get_size()} bytes")
         data = [draw.randbytes(words.size) for _ in range(64)]
-        print("request,bytes,requests,us_nbdkit,us_program,us" + ",rows,ticks,waits" * (not server.is_relay))
+        print("request,bytes,requests,us_relay,us_program,us")
         measure(server, words, "write", lambda: disk.pwrite(draw.choice(data), words.size * draw.randrange(blocks)))
         measure(server, words, "read", lambda: disk.pread(words.size, words.size * draw.randrange(blocks)))
 

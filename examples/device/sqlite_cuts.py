@@ -4,11 +4,11 @@
     sqlite_cuts.py PCM [--cycles N] [--mode delete|wal] [--sync full|extra] [--log FILE] [KEY=VALUE ..]
 
 KEY=VALUE are parameters of the module and the disk. It needs root, and what disks.py names. One server lives all along. In each cycle the
-disk is attached and mounted, and transactions run until the cut, which is due in a drawn number of ticks (of a relay: anywhere), ends the connection; then
+disk is attached and mounted, and transactions run until the cut, which is due in a drawn number of ticks (with on-cut=drop: anywhere), ends the connection; then
 all is taken down and attached again. The kernel replays ext4's journal, `e2fsck -fn` must find nothing behind it, and the data base must be whole, with
 all transactions that were committed and at most the one under way besides. (With a rollback journal and --sync full SQLite promises less:
 the last transaction may be undone.) The numbers that it reports: cuts, committed transactions, how often the one under way came through
-or didn't, and what the module's counts are. Its status is 1 where something is wrong, and 3 where it can't go on, since transactions end
+or didn't, and what the disk's counts are. Its status is 1 where something is wrong, and 3 where it can't go on, since transactions end
 without a cut (a disk that is too small, say) or since the module is worn out."""
 import os
 import random
@@ -46,7 +46,7 @@ class Base:
         """The disk attached and mounted, and the data base opened: its integrity, rows and number."""
         self.disk.attach()
         if not is_first and self.words.recovery_ticks and self.draw.random() < 0.7:
-            self.disk.cut_in(self.draw.randrange(1, self.words.recovery_ticks + 1))
+            self.disk.control(f"cut {self.draw.randrange(1, self.words.recovery_ticks + 1)}")
         # the kernel replays its journal: nothing may be left to mend behind it
         run("mount", "-t", "ext4", self.disk.loop, self.disk.mount)
         run("umount", self.disk.mount)
@@ -119,7 +119,7 @@ class Base:
         self.counts["committed"] += 1
 
     def work_until_a_cut(self, cycle):
-        self.disk.cut_in(self.draw.randrange(1, self.words.most_ticks + 1))
+        self.disk.control(f"cut {self.draw.randrange(1, self.words.most_ticks + 1)}")
         try:
             while True:
                 self.one_transaction()
@@ -137,7 +137,7 @@ def main():
     ask.add_argument("--recovery-ticks", type=whole(0), default=0, help="cut the power also while it recovers, in so many ticks at most")
     ask.add_argument("--block", default="1024", help="of ext4")
     words = ask.parse_intermixed_args()
-    disk = Disk(words.pcm, words.parameters, words.plugin, words.log)
+    disk = Disk(words.pcm, words.parameters, words.log, cuts=True)
     try:
         disk.through_cuts(lambda: disk.run_on_it("mkfs.ext4", "-q", "-b", words.block))
     except RuntimeError as error:
@@ -154,7 +154,7 @@ def main():
     disk.detach()
     fsck = disk.through_cuts(lambda: disk.run_on_it("e2fsck", "-fn"))
     print("e2fsck -fn:", fsck.stdout.strip().splitlines()[-1])
-    print("module:", disk.end())
+    print("disk:", disk.end())
     print("all right:", base.counts)
 
 

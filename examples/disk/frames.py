@@ -1,16 +1,19 @@
 """Frames of NBD, as a client builds and reads them, and a model of what `pcm disk` answers to any bytes where no power cut comes and no line
 wears out. It is written from docs/FORMATS.md, and knows nothing of the program."""
+import io
+import os
 import struct
 import subprocess
-from typing import Iterable, List, NamedTuple, Optional, Sequence, Tuple
+from typing import Iterable, List, NamedTuple, Optional, Sequence, Tuple, Union
 
+Bytes = Union[bytes, bytearray, memoryview]
 GREETING = b"NBDMAGICIHAVEOPT\0\3"
 OPTION, ANSWER, REQUEST, REPLY = 0x49484156454F5054, 0x3E889045565A9, 0x25609513, 0x67446698
 EXPORT_NAME, ABORT, LIST, INFO, GO = 1, 2, 3, 6, 7
-ACK, SERVER, TOLD, UNSUPPORTED, INVALID, TOO_BIG = 1, 2, 3, 0x80000001, 0x80000003, 0x80000009  # (ERR_UNSUP and its like)
+ACK, SERVER, TOLD, UNSUPPORTED, INVALID, UNKNOWN, TOO_BIG = 1, 2, 3, 0x80000001, 0x80000003, 0x80000006, 0x80000009  # (ERR_UNSUP and its like)
 READ, WRITE, LEAVE, FLUSH = 0, 1, 2, 3
 FLAGS = 1 | 4 | 8  # of them FLUSH and FUA
-IO, MEMORY, EINVAL, NO_SPACE, SHUTDOWN = 5, 12, 22, 28, 108
+REFUSED, IO, MEMORY, EINVAL, NO_SPACE, SHUTDOWN = 1, 5, 12, 22, 28, 108
 MOST_BYTES, MOST_DATA = 32 << 20, 8192
 
 
@@ -173,17 +176,17 @@ class Reply(NamedTuple):
     """What was answered to a request."""
 
     error: int
-    data: bytes
+    data: Union[bytes, bytearray] = b""
 
 
 class Client:
     """A client of a program that serves a disk on its standard input and output; one request at a time."""
 
-    def __init__(self, words: Sequence[str]) -> None:
+    def __init__(self, words: Sequence[str], said: Optional[int] = subprocess.PIPE) -> None:
         # (ended by `with`)
-        self.program = subprocess.Popen(words, stdin=subprocess.PIPE, stdout=subprocess.PIPE, stderr=subprocess.PIPE, bufsize=0)  # pylint: disable=consider-using-with
+        self.program = subprocess.Popen(words, stdin=subprocess.PIPE, stdout=subprocess.PIPE, stderr=said, bufsize=0)  # pylint: disable=consider-using-with
         self.cookie = 0
-        assert self.program.stdin and self.program.stdout
+        assert isinstance(self.program.stdin, io.FileIO) and isinstance(self.program.stdout, io.FileIO)
         self.to, self.back, self.size = self.program.stdin, self.program.stdout, 0
 
     def __enter__(self) -> "Client":
@@ -195,26 +198,30 @@ class Client:
     def __exit__(self, *_: object) -> None:
         self.end(b"")
 
-    def send(self, data: bytes) -> None:
+    def send(self, *parts: Bytes) -> None:
         """Bytes go to the server."""
-        view = memoryview(data)
-        while view:
-            view = view[self.to.write(view):]
+        sent = os.writev(self.to.fileno(), parts)
+        for part in parts:
+            view = memoryview(part)[sent:]
+            sent = max(0, sent - len(part))
+            while view:
+                view = view[self.to.write(view):]
 
-    def take(self, count: int) -> bytes:
+    def take(self, count: int) -> bytearray:
         """The server's next bytes."""
-        found = b""
-        while len(found) < count:
-            piece = self.back.read(count - len(found))
-            if not piece:
-                raise EOFError(f"the server ended: {self.program.stderr and self.program.stderr.read()!r}")
-            found += piece
+        found, done = bytearray(count), 0
+        with memoryview(found) as view:
+            while done < count:
+                came = self.back.readinto(view[done:])
+                if not came:
+                    raise EOFError("the server ended")
+                done += came
         return found
 
-    def asks(self, command: int, at: int = 0, size: int = 0, data: bytes = b"", flags: int = 0) -> Reply:
+    def asks(self, command: int, at: int = 0, size: int = 0, data: Bytes = b"", flags: int = 0) -> Reply:
         """A request, and what is answered."""
         self.cookie += 0x100000001
-        self.send(request(command, at, size, data, self.cookie, flags))
+        self.send(request(command, at, size, b"", self.cookie, flags), data)
         magic, error, cookie = struct.unpack(">IIQ", self.take(16))
         if magic != REPLY or cookie != self.cookie:
             raise ValueError(f"a reply to {self.cookie} begins with {magic:#x}, and is to {cookie}")
@@ -224,7 +231,7 @@ class Client:
         """Reads."""
         return self.asks(READ, at, size)
 
-    def write(self, at: int, data: bytes) -> Reply:
+    def write(self, at: int, data: Bytes) -> Reply:
         """Writes."""
         return self.asks(WRITE, at, len(data), data)
 
@@ -236,7 +243,7 @@ class Client:
             except BrokenPipeError:
                 pass
         out, said = self.program.communicate()
-        return self.program.returncode, said.decode() + ("" if not out else f" and {len(out)} bytes more")
+        return self.program.returncode, (said or b"").decode() + ("" if not out else f" and {len(out)} bytes more")
 
 
 def served(words: Iterable[str], data: bytes, seconds: float = 60) -> Tuple[bytes, int, str]:

@@ -1,4 +1,4 @@
-"""One table of options (pcm/words.py), and all that states them beside it: the programs' own tables and ranges, and the parameters of the disk."""
+"""One table of options (pcm/words.py), and all that states them beside it: the programs' own tables and ranges."""
 import pathlib
 import re
 import unittest
@@ -29,12 +29,6 @@ def calls() -> Iterator[Tuple[str, List[int]]]:
                     yield name, [number(it) for it in words]
 
 
-def parameters() -> Dict[str, List[str]]:
-    """The disk's parameters that are the module's own."""
-    table = text("c/nbdkit_parameters.h").partition("} parameters[] = {")[2].partition("/* the disk's */")[0]
-    return {name: [it.strip() for it in rest.split(",")] for name, rest in re.findall(r'\{"([a-z-]+)", ([^}]*)\}', table)}
-
-
 class Options(unittest.TestCase):
     def test_each_program_has_the_options_of_the_table(self) -> None:
         told = {name.lower(): re.findall(r'"([a-z-]+)"', words) for name, words in
@@ -52,16 +46,6 @@ class Options(unittest.TestCase):
         for name, numbers in found:
             ranges = [[int(it.default), it.least, it.most][:len(numbers)] for it in known[name]]
             self.assertIn(numbers, ranges, name)
-
-    def test_the_disk_takes_the_modules_options(self) -> None:
-        stream = COMMANDS["stream"].options
-        found = parameters()
-        self.assertEqual(len(found), 17)
-        for name, (kind, least, most, words, *_) in found.items():
-            if kind == "IS_WORD":
-                self.assertEqual(tuple(words.strip('"').split("|")), stream[name].choices, name)
-            elif name not in ("banks", "regions", "lines", "line"):
-                self.assertEqual((number(least), number(most)), (stream[name].least, stream[name].most), name)
 
 
 if __name__ == "__main__":
