@@ -9,5 +9,5 @@ newest-requires g c =
     let size =
     lines-size inside.module (g.A.CellArray.state inside.array) inside.kept (newest inside.asked) inside.off inside.finished c.self.invariant.serving c.self.invariant.ended in (
       omega (arith, c.self.invariant.layout.shape.1),
-      (c.self.invariant.layout, omega (arith, c.if-line-lines.false, c.lines.ensures), size),
+      (c.self.invariant.layout, (omega (arith, c.if-line-lines.false, c.lines.ensures), size)),
     )
