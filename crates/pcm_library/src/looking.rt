@@ -138,13 +138,22 @@ impl<const B: usize, const M: usize, const E: usize, A: TellsCells<B, M> + Drop>
         if line >= self.lines() {
             return None;
         }
+        Some(self.standing_at(line))
+    }
+
+    // Where a line stands now, and how worn its array line is.
+    fn standing_at(&self, line: u32) -> Standing
+        requires exists { line < total_of self.now.module_.shape }
+        ensures { result ≡ standing_of self.now.module_ (A.state self.now.array)
+            (A.changes self.now.array) line }
+    {
         // Its sizes make known that each line's bank is one of the module's.
         let _ = self.module.shape();
         let place = self.module.translate(line);
-        Some(Standing {
+        Standing {
             place,
             wear: self.wear_at(place),
-        })
+        }
     }
 
     /// A line's newest bytes, those that the module accepted last, wherever they are, where there is such a line. No bank goes on.
