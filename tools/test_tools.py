@@ -796,7 +796,7 @@ class Unused(unittest.TestCase):
     def setUp(self):
         self.top = pathlib.Path(tempfile.mkdtemp(prefix="pcm tools ")) / "a clone"
         self.addCleanup(shutil.rmtree, self.top.parent)
-        for name in ("edges", "unused", "imports", "lint", "crates.py", "definitions.py"):
+        for name in ("edges", "unused", "namesakes", "imports", "lint", "crates.py", "definitions.py"):
             (self.top / "tools").mkdir(parents=True, exist_ok=True)
             shutil.copy(TOP / "tools" / name, self.top / "tools")
         (self.top / "examples").mkdir()
@@ -839,6 +839,17 @@ class Unused(unittest.TestCase):
         imports = "use Rattle.low.specs.Parts.{half, ◌+◌}\nuse Rattle.low.specs.Parts as parts\npub use Rattle.low.specs.Parts.{half}\n\n-- half\nother = 1 + 1\n"
         self.planted("crates/high/specs/Lib.antt", imports, "crates/high/specs/Lib.antt: names nowhere Rattle.low.specs.Parts.half",
                      "tools/lint: imports that their file names nowhere: failed")
+
+    def test_a_type_of_one_name_in_two_crates(self):
+        half, other = "crates/low/src/half.rt", "crates/high/src/half.rt"
+        self.write(half, "/// A half.\npub struct Half;\n\nimpl Part for Half {\n    type Whole = Half;\n}\n")
+        self.write("crates/low/src/lib.rt", f"{self.TEXTS['crates/low/src/lib.rt']}struct Half;\n")
+        named = lambda text: (self.write(other, text), subprocess.run([self.top / "tools" / "namesakes"], capture_output=True, text=True).stdout)[1]
+        for text in ("struct Halves;", "// struct Half", "fn half() -> Half {}", "    type Half = u8;", "struct Whole;"):
+            self.assertEqual(named(text), "")
+        for text in ("struct Half<T> {}", "pub enum Half {", "\n\npub(crate) type Half = u8;", "trait Half {", "pub unsafe trait Half {"):
+            self.assertEqual(named(text), f"Half: {half} {other}\n")
+        self.assertEqual(self.lint(), [f"Half: {half} {other}", "tools/lint: types of one name in two crates: failed"])
 
     @unittest.skipUnless(shutil.which("pyflakes3") or shutil.which("pyflakes"), "there is no pyflakes3")
     def test_a_module_that_a_script_of_python_imports_for_nothing(self):
@@ -957,7 +968,7 @@ class Words(unittest.TestCase):
             "run --print rows": "--print rows: it may be results, summary, wear or image (rows is for stream)",
             "stream --every 5": "--every belongs to --print snapshots alone",
             "stream --tell shape --print wear": "--tell belongs to --print rows alone",
-            "stream --tell": "--tell lacks its value: it may be nothing or shape",
+            "stream --tell": "--tell lacks its value: it may be nothing, shape or module",
             "run --tell shape": "--tell is no option of run, but of stream",
             "stream --skip unpulsed": "--skip belongs to --print wear or lines alone",
             "stream --print lines --skip pulsed": "--skip pulsed: it may be nothing or unpulsed (did you mean unpulsed?)",
@@ -1003,12 +1014,12 @@ class Words(unittest.TestCase):
             (f"{head}0,R,0,\n\n5,R,0,,\n", "run", "trace row 2: fields", "line 4: it has 5 fields, and must have four: tick,op,arg,data"),
             (f"{head}0,R,0,row,op,line,outcome,tick,place,data\n1,R,0,read,5,3,{line}\n", "check", "trace row 1: fields",
              "line 2: the header of results stands in it: the trace's last line must be ended before them"),
-            (f"{head}0,R,0,\n5,S,,\n6,X,0,\n", "stream", "trace row 2: op", "line 4: the second field must be R, W, M, C, S, Q, U or L, and is 'X'"),
+            (f"{head}0,R,0,\n5,S,,\n6,X,0,\n", "stream", "trace row 2: op", "line 4: the second field must be R, W, M, C, S, Q, U, L or P, and is 'X'"),
             (f"{head}0,R,0,\n5,U,1,\n", "run", "trace row 2: op",
              "line 3: the second field must be R, W, M or C, and is 'U' (U, a settle until, is a stream's alone)"),
             *((f"{head}0,R,0,\n7,R,0,\n9,U,2,\n7,R,0,\n{rows}", "stream", f"trace row {at}: {kind}", said) for rows, at, kind, said in (
                 ("8,U,4,\n", 4, "line", "line 6: the third field of U must be the number of a row that came before, 1 to 3, and is '4'"),
-                ("8,U,,\n", 4, "line", "line 6: the third field of U must be the number of a row that came before, 1 to 3, and is ''"),
+                ("8,U,,0\n", 4, "payload", "line 6: the fourth field of U must be empty, and is '0'"),
                 ("8,U,03,0\n", 4, "payload", "line 6: the fourth field of U must be empty, and is '0'"),
                 ("8,U,0000000003,\n6,C,,\n", 4, "order", "line 7: its tick 6 is below 7, the tick of the row before (line 5)"),
                 ("", 3, "order", "line 5: its tick 7 is below the one that the settle until of line 4 reached"),
@@ -1018,6 +1029,11 @@ class Words(unittest.TestCase):
                 ("20,U,1,\n8,C,,\n9,C,,\n", 5, "order", None),
             )),
             (f"{head}0,L,0,\n", "stream", "trace row 1: line", "line 2: the third field of L must be empty, and is '0'"),
+            (f"{head}0,R,0,\n5,P,1,\n", "run", "trace row 2: op",
+             "line 3: the second field must be R, W, M or C, and is 'P' (P, a peek, is a stream's alone)"),
+            (f"{head}0,P,512,\n", "stream", "trace row 1: line",
+             "line 2: the third field must be a line, 0 to 511 (banks x regions x lines are 512) in at most 5 digits, and is '512'"),
+            (f"{head}0,P,1,0\n", "stream", "trace row 1: payload", "line 2: the fourth field of P must be empty, and is '0'"),
             (f"{head}9,U,1,\n", "stream", "trace row 1: line",
              "line 2: the third field of U must be the number of a row that came before, and none did, and is '1'"),
             (f"{head}0,W,5,{line[:-1]}g\n", "run", "trace row 1: payload",

@@ -149,6 +149,12 @@ class Cuts(unittest.TestCase):
             with Client(words("--cuts", "4000", "--cut-every", "200", "--cut-seed", "7", "--misses", "3", "--registers", registers)) as it:
                 self.assertGreater(self.serve(it, (frames.SHUTDOWN,), 60), 20)
 
+    def test_near_cuts(self) -> None:
+        for every, way in ((1, "ride"), (4, "ride"), (4, "drop"), (12, "drop")):
+            with Client(words("--cuts", "3000", "--cut-every", str(every), "--cut-seed", "3", "--on-cut", way, "--misses", "2")) as it:
+                failed = self.serve(it, (frames.SHUTDOWN,), 30)
+                self.assertEqual(failed > 0, way == "drop")
+
     def test_a_cut_at_its_tick(self) -> None:
         seen = set()
         for tick in range(1, 900, 23):

@@ -264,7 +264,7 @@ class Latencies(Room):
         faulty = self.file("faulty", given.replace(b",R,", b",X,", 1))
         status, _, err = self.told(latencies, "--run", faulty)
         self.assertEqual(3, status)
-        self.assertIn("the second field must be R, W, M, C, S, Q, U or L", err)
+        self.assertIn("the second field must be R, W, M, C, S, Q, U, L or P", err)
 
     def test_rows_that_are_cut_off_and_rows_without_an_outcome(self):
         trace, _, _, told = self.both(DRAWN)

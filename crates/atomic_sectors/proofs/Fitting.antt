@@ -1,6 +1,6 @@
 -- What follows where sectors fit on lines.
-use Rattle.std.proofs.Common.{ℕ, ◌+◌, ◌-◌, ◌*◌, ◌/◌, ◌^◌, ◌<◌, ◌≤◌, arith}
-use Rattle.atomic_sectors.{specs.Sectors.{Fits, word_line}, specs.declared.layout.Layout.Layout, proofs.Places.{blocks_few, words_before, in_block, words_of}}
+use Rattle.std.proofs.Common.{◌≡◌, ℕ, ◌+◌, ◌-◌, ◌*◌, ◌/◌, ◌^◌, ◌<◌, ◌≤◌, ap, arith}
+use Rattle.atomic_sectors.{specs.Sectors.{Fits, word_at, word_line}, specs.declared.layout.Layout.Layout, proofs.Places.{blocks_few, words_before, in_block, words_of, same_line}}
 
 module _ (n : ℕ) (layout : Layout) (count : ℕ) (fits : Fits n layout count) where
   -- there are fewer sectors than lines
@@ -19,3 +19,7 @@ module _ (n : ℕ) (layout : Layout) (count : ℕ) (fits : Fits n layout count) 
   block_fits b exists =
       let last = in_block layout.block layout.sectors b (layout.block - 1) exists (omega (arith, fits.some)) in
       omega (arith, last, fits.some, fits.room)
+
+-- a word that does not begin a line is in the line of the word before
+pub line_stays : (n : ℕ) (layout : Layout) (s : ℕ) → 0 < n / 4 → 0 < word_at n layout (s + 1) → word_line n layout (s + 1) ≡ word_line n layout s
+line_stays n layout s some inside = ap (λ q. (layout.sectors + 1) * layout.block + q) (same_line (n / 4) s some (omega (arith, inside)))

@@ -1,6 +1,6 @@
 -- Where blocks and words are.
 use Rattle.std.proofs.Common.{◌≡◌, ◌≢◌, ◌⊎◌, ℕ, ◌+◌, ◌*◌, ◌/◌, ◌%◌, ◌<◌, ◌≤◌, sym, ◌∙◌, ap, arith, inl, inr}
-use Rattle.std.proofs.{Math.Nat.{mul-le-mul_left, mul-le-mul_right, div-mul-le_self}, lemmas.Bool.cases_order, lemmas.Nat.{div-add-mod', le-div}}
+use Rattle.std.proofs.{Math.Nat.{mul-le-mul_left, mul-le-mul_right, div-mul-le_self}, lemmas.Bool.cases_order, lemmas.Nat.{div-add-mod', div-mul-add, le-div, mod-mul-add, mod_below}}
 
 -- a line of a block is before the end of all blocks
 pub in_block : (k last b i : ℕ) → b ≤ last → i < k → b * k + i < (last + 1) * k
@@ -24,6 +24,25 @@ pub words_before : (q s last : ℕ) → 0 < q → s ≤ last → s / q ≤ last 
 words_before q s last some below =
     let h : s / q * q ≤ s = div-mul-le_self s q in
     le-div (s / q) last q some (omega (arith, h, below))
+
+-- a word that does not begin a line is in the line of the word before
+pub same_line : (q s : ℕ) → 0 < q → 0 < (s + 1) % q → (s + 1) / q ≡ s / q
+same_line q s some inside =
+    let whole : s / q * q + s % q ≡ s = div-add-mod' s q in
+    let rest : s % q < q = mod_below s q some in
+    elim (cases_order (s % q + 1) q) [
+      | inl last ↦
+          let next : s + 1 ≡ (s / q + 1) * q + 0 = next_line (s / q) q s (s % q) whole last in
+          let none : (s + 1) % q ≡ 0 = ap (λ x. x % q) next ∙ mod-mul-add (s / q + 1) q 0 some in
+          absurd (omega (arith, none, inside))
+      | inr (inl within) ↦
+          let next : s + 1 ≡ s / q * q + (s % q + 1) = omega (arith, whole) in
+          ap (λ x. x / q) next ∙ div-mul-add (s / q) q (s % q + 1) within
+      | inr (inr above) ↦ absurd (omega (arith, rest, above))
+    ]
+  where
+    next_line : (a q s r : ℕ) → a * q + r ≡ s → r + 1 ≡ q → s + 1 ≡ (a + 1) * q + 0
+    next_line a q s r whole last = let e : (a + 1) * q ≡ a * q + q = omega arith in omega (arith, whole, last, e)
 
 -- and not one of another block
 pub blocks_apart : (k a b i : ℕ) → a ≢ b → i < k → (a * k + i < b * k) ⊎ (b * k + k ≤ a * k + i)

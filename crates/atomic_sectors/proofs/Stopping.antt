@@ -1,9 +1,9 @@
 -- How many requests were stopped, as one more is.
 use Rattle.std.proofs.Common.{◌≡◌, ℕ, ◌+◌, List, [], ◌∷◌, ◌++◌, arith}
-use Rattle.atomic_sectors.specs.{Stops.{RoseBy, stops_of, stops_in}, declared.serving.Answer.Answer}
+use Rattle.atomic_sectors.specs.{Stops.{RoseBy, stops_of, stops_in}, declared.serving.SectorAnswer.SectorAnswer}
 
 module _ {n : ℕ} where
-  pub stops-more : (answers : List (Answer n)) (a : Answer n) → stops_in (answers ++ a ∷ []) ≡ stops_in answers + stops_of a
+  pub stops-more : (answers : List (SectorAnswer n)) (a : SectorAnswer n) → stops_in (answers ++ a ∷ []) ≡ stops_in answers + stops_of a
   stops-more [] a = omega arith
   stops-more (b ∷ answers) a = omega (arith, stops-more answers a)
 

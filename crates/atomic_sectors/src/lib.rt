@@ -16,4 +16,4 @@ pub use layout::Layout;
 pub use lines::{Lines, Stopped};
 pub use recorded::{Put, Recorded};
 pub use sectors::Sectors;
-pub use serving::{Answer, Request, opened, serve, serve_all};
+pub use serving::{SectorAnswer, SectorRequest, opened, serve, serve_all};

@@ -3,7 +3,7 @@ ghost use Rattle.std.specs.Prelude.{◌≡◌, ℕ, ◌+◌, ◌*◌, ◌^◌, �
 ghost use Rattle.pcm_io.specs.Faults.{Rose};
 ghost use Rattle.atomic_sectors.specs.Lines.{stand};
 ghost use Rattle.atomic_sectors.specs.Moments.{AtEachMoment, IsMadeOrNot};
-ghost use Rattle.atomic_sectors.specs.Sectors.{Fits, IsMapped, IsWhole, Have, IsBeforeOrAfter, KeepsOthers, StandFrom, block_of, sector_line, with_sector, word_write};
+ghost use Rattle.atomic_sectors.specs.Sectors.{Fits, IsMapped, IsWhole, Have, IsBeforeOrAfter, KeepsOthers, StandFrom, block_of, sector_line, with_sector, word_at, word_line, word_write};
 
 use crate::layout::Layout;
 use crate::lines::{Lines, Stopped};
@@ -14,6 +14,17 @@ use crate::numbers::{number_at, number_bytes, number_given};
 pub struct Sectors {
     pub layout: Layout,
     pub free: u32,
+}
+
+// The block that the word of a sector means, in the bytes of the word's line.
+fn block_in<const B: usize>(layout: &Layout, bytes: &[u8; B], sector: u32, count: u32) -> u32
+    requires fits { Fits B layout.now count }
+    requires exists { sector < layout.now.sectors }
+    ensures { (lines : ℕ → List ℕ) → lines (word_line B layout.now sector) ≡ bytes.now
+        → result ≡ block_of B layout.now lines sector }
+{
+    let word = number_at(bytes, layout.word_at::<B>(sector, count));
+    if word == 0 { sector } else { word - 1 }
 }
 
 // The block in which a sector stands.
@@ -33,8 +44,33 @@ fn find_block<const B: usize, L: Lines<B>>(
 {
     let count = lines.count();
     let bytes = lines.get(layout.word_line::<B>(sector, count))?;
-    let word = number_at(&bytes, layout.word_at::<B>(sector, count));
-    Ok(if word == 0 { sector } else { word - 1 })
+    Ok(block_in(layout, &bytes, sector, count))
+}
+
+// Goes on to the word of a sector: its line is read where the word is the first there, and is
+// held from the word before on.
+fn next_word<const B: usize, L: Lines<B>>(
+    layout: &Layout,
+    lines: &mut L,
+    sector: u32,
+    held: &mut [u8; B],
+) -> Result<(), Stopped>
+    requires fits { Fits B layout.now (L.count (L.kind lines.old)) }
+    requires exists { sector < layout.now.sectors }
+    requires held { 0 < word_at B layout.now sector
+        → stand B (L.made lines.old) (word_line B layout.now sector) ≡ held.old }
+    ensures held { OnOk result
+        (stand B (L.made lines.old) (word_line B layout.now sector) ≡ held.new) }
+    ensures made { L.made lines.new ≡ L.made lines.old }
+    ensures cause { OnErr result (Rose (L.stops lines.old) (L.stops lines.new)) }
+    ensures never_falls { L.stops lines.old ≤ L.stops lines.new }
+    ensures kind { L.kind lines.new ≡ L.kind lines.old }
+{
+    let count = lines.count();
+    if layout.word_at::<B>(sector, count) == 0 {
+        *held = lines.get(layout.word_line::<B>(sector, count))?;
+    }
+    Ok(())
 }
 
 // The bytes of a line, of which there are `B`.
@@ -127,9 +163,12 @@ impl Sectors {
     {
         let mut all = 0u64;
         let mut used = 0u64;
+        let count = lines.count();
+        let mut held = [0; B];
         for sector in 0..layout.sectors {
+            next_word(&layout, lines, sector, &mut held)?;
             all += u64::from(sector);
-            used += u64::from(find_block(&layout, lines, sector)?);
+            used += u64::from(block_in(&layout, &held, sector, count));
         }
         Ok(Sectors {
             layout,

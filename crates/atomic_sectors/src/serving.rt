@@ -13,14 +13,14 @@ use std::alloc::{AllocError, Global};
 
 /// What sectors are asked for.
 #[derive(Drop)]
-pub enum Request<const B: usize> {
+pub enum SectorRequest<const B: usize> {
     Read(u32),
     Write(u32, Vec<[u8; B]>),
 }
 
 /// What they answer.
 #[derive(Drop)]
-pub enum Answer<const B: usize> {
+pub enum SectorAnswer<const B: usize> {
     Lines(Vec<[u8; B]>),
     Done,
     Stopped(Stopped),
@@ -53,8 +53,8 @@ pub fn serve<const B: usize, L: Lines<B>>(
     layout: Layout,
     lines: &mut L,
     known: Option<Sectors>,
-    request: &Request<B>,
-) -> (Answer<B>, Option<Sectors>)
+    request: &SectorRequest<B>,
+) -> (SectorAnswer<B>, Option<Sectors>)
     requires fits { Fits B layout (L.count (L.kind lines.old)) }
     requires known { IsKnown B layout (L.made lines.old) known }
     requires asked { IsAsked B layout request.now }
@@ -68,11 +68,11 @@ pub fn serve<const B: usize, L: Lines<B>>(
 {
     let sectors = match opened(layout, lines, known) {
         Ok(sectors) => sectors,
-        Err(why) => return (Answer::Stopped(why), None),
+        Err(why) => return (SectorAnswer::Stopped(why), None),
     };
     match request {
-        Request::Read(sector) => read(alloc, sectors, lines, *sector),
-        Request::Write(sector, from) => write(sectors, lines, *sector, from.as_slice()),
+        SectorRequest::Read(sector) => read(alloc, sectors, lines, *sector),
+        SectorRequest::Write(sector, from) => write(sectors, lines, *sector, from.as_slice()),
     }
 }
 
@@ -89,7 +89,7 @@ fn read<const B: usize, L: Lines<B>>(
     sectors: Sectors,
     lines: &mut L,
     sector: u32,
-) -> (Answer<B>, Option<Sectors>)
+) -> (SectorAnswer<B>, Option<Sectors>)
     requires fits { Fits B sectors.layout (L.count (L.kind lines.old)) }
     requires mapped { IsMapped B sectors.layout (stand B (L.made lines.old)) sectors.free }
     requires exists { sector < sectors.layout.sectors }
@@ -102,11 +102,11 @@ fn read<const B: usize, L: Lines<B>>(
     ensures kind { L.kind lines.new ≡ L.kind lines.old }
 {
     let Ok(mut to) = zeros::<B>(alloc, sectors.layout.block) else {
-        return (Answer::Stopped(Stopped::Memory), Some(sectors));
+        return (SectorAnswer::Stopped(Stopped::Memory), Some(sectors));
     };
     match sectors.read(lines, sector, to.as_mut_slice()) {
-        Ok(()) => (Answer::Lines(to), Some(sectors)),
-        Err(why) => (Answer::Stopped(why), Some(sectors)),
+        Ok(()) => (SectorAnswer::Lines(to), Some(sectors)),
+        Err(why) => (SectorAnswer::Stopped(why), Some(sectors)),
     }
 }
 
@@ -116,7 +116,7 @@ fn write<const B: usize, L: Lines<B>>(
     lines: &mut L,
     sector: u32,
     from: &[[u8; B]],
-) -> (Answer<B>, Option<Sectors>)
+) -> (SectorAnswer<B>, Option<Sectors>)
     requires fits { Fits B sectors.layout (L.count (L.kind lines.old)) }
     requires mapped { IsMapped B sectors.layout (stand B (L.made lines.old)) sectors.free }
     requires exists { sector < sectors.layout.sectors }
@@ -134,8 +134,8 @@ fn write<const B: usize, L: Lines<B>>(
 {
     let mut sectors = sectors;
     match sectors.write(lines, sector, from) {
-        Ok(()) => (Answer::Done, Some(sectors)),
-        Err(why) => (Answer::Stopped(why), None),
+        Ok(()) => (SectorAnswer::Done, Some(sectors)),
+        Err(why) => (SectorAnswer::Stopped(why), None),
     }
 }
 
@@ -147,8 +147,8 @@ pub fn serve_all<const B: usize, L: Lines<B>>(
     alloc: Global,
     layout: Layout,
     lines: &mut L,
-    requests: &[Request<B>],
-) -> Result<Vec<Answer<B>>, AllocError>
+    requests: &[SectorRequest<B>],
+) -> Result<Vec<SectorAnswer<B>>, AllocError>
     requires fits { Fits B layout (L.count (L.kind lines.old)) }
     requires whole { IsWhole B layout (stand B (L.made lines.old)) }
     requires asked { All (IsAsked B layout) requests.now }

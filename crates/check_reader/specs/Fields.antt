@@ -1,6 +1,6 @@
 -- The fields of the first row of some bytes.
 use Rattle.std.specs.{Option.option_and_then, Prelude.{ℕ, ◌==◌, if◌then◌else◌, List, [], ◌∷◌, Option, Some, None, option_map}}
-use Rattle.check_reader.specs.declared.fields.Fields as code
+use Rattle.check_reader.specs.declared.fields.ResultFields as code
 
 -- the bytes before the first that is this one, and those behind it
 unfoldable pub cut_at : ℕ → List ℕ → Option (List ℕ × List ℕ)
@@ -19,7 +19,7 @@ pub record Fields : Type 0 where
   pub rest : List ℕ
 
 -- the bytes that the fields point to
-abbrev pub seen : code.Fields → Fields
+abbrev pub seen : code.ResultFields → Fields
 seen fields = record {
   number = fields.number.now;
   letter = fields.letter.now;

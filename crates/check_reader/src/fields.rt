@@ -6,7 +6,7 @@ use memchr::memchr;
 
 /// The seven fields of a row, as bytes, and the bytes behind the row.
 #[derive(Clone, Copy)]
-pub struct Fields<'a> {
+pub struct ResultFields<'a> {
     pub number: &'a [u8],
     pub letter: &'a [u8],
     pub line: &'a [u8],
@@ -34,7 +34,7 @@ fn cut(bytes: &[u8], end: u8) -> Option<(&[u8], &[u8])>
 
 /// The fields of the first row, if it has seven.
 #[tactic(auto, unfolding(crate::specs::Fields::fields_of))]
-pub fn split_row(bytes: &[u8]) -> Option<Fields<'_>>
+pub fn split_row(bytes: &[u8]) -> Option<ResultFields<'_>>
     ensures { option_map seen result ≡ fields_of bytes.now }
 {
     let (number, rest) = cut(bytes, b',')?;
@@ -44,7 +44,7 @@ pub fn split_row(bytes: &[u8]) -> Option<Fields<'_>>
     let (tick, rest) = cut(rest, b',')?;
     let (place, rest) = cut(rest, b',')?;
     let (digits, rest) = cut(rest, b'\n')?;
-    Some(Fields {
+    Some(ResultFields {
         number,
         letter,
         line,

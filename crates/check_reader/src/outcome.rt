@@ -6,7 +6,7 @@ ghost use Rattle.check_reader.specs.Fields.{seen};
 ghost use Rattle.check_reader.specs.Parts.{HasParts, Shows};
 
 use crate::digits::read_digits;
-use crate::fields::{Fields, is_same};
+use crate::fields::{ResultFields, is_same};
 use crate::number::{read_number, read_place};
 use result_rows::{Op, Outcome};
 
@@ -77,7 +77,7 @@ fn outcome_with<const B: usize>(
 }
 
 /// The outcome that the last four fields show, of a row of this operation.
-pub fn outcome_of<const B: usize>(op: Op, fields: &Fields) -> Option<Outcome<B>>
+pub fn outcome_of<const B: usize>(op: Op, fields: &ResultFields) -> Option<Outcome<B>>
     requires some_size { 1 ≤ B }
     requires size { B ≤ 128 }
     ensures some { IfSome result (λ o. MayStand op o × Shows (seen fields.now) o) }

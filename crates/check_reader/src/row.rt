@@ -4,13 +4,13 @@ ghost use Rattle.check_reader.specs.ResultRows.{IsRow, IsNoRow};
 ghost use Rattle.check_reader.specs.Parts.{HasHead};
 ghost use Rattle.check_reader.specs.Fields.{seen};
 
-use crate::fields::{Fields, is_same, split_row};
+use crate::fields::{ResultFields, is_same, split_row};
 use crate::number::is_number;
 use crate::outcome::outcome_of;
 use result_rows::{Op, Outcome};
 
 // Whether the first three fields are those of this row.
-fn has_head(fields: &Fields, row: u32, op: Op, line: u32) -> bool
+fn has_head(fields: &ResultFields, row: u32, op: Op, line: u32) -> bool
     ensures { IsTrue result ↔ HasHead row (op, line) (seen fields.now) }
 {
     is_number(fields.number, u64::from(row))

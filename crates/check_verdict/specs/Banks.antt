@@ -1,7 +1,7 @@
 -- What the code keeps of a bank, as the laws know it.
-use Rattle.check_verdict.specs.{States.Facts, declared.bank.Bank.Bank}
+use Rattle.check_verdict.specs.{States.Facts, declared.bank.CheckedBank.CheckedBank}
 
-abbrev pub facts_of : Bank → Facts
+abbrev pub facts_of : CheckedBank → Facts
 facts_of b = record {
   members = b.members.items;
   waits = b.waits.items;

@@ -5,7 +5,7 @@ use Rattle.result_rows.specs.declared.Outcome.{Outcome}
 use Rattle.row_rules.specs.{Answers.is_worn, Queueing.read_fits, Serving.may_have, declared.Row.Row, declared.Rules.Rules}
 use Rattle.check_verdict.specs.{Ahead.{bound_kept, latest_kept, at_store}, Covering.{soonest, cover_kept}, Fitting.{at_head_kept, write_fits}, Judged.{beside, first_broken}}
 use Rattle.check_verdict.specs.{Keeping.{stored_early, read_timely, write_timely}, Kept.apart_kept, QueueLaws.next_accepted, States.Facts, Timely.first_of_ticks, Worn.first_worn}
-use Rattle.check_verdict.specs.{declared.Rule.Rule, declared.known.Coming.Coming, declared.known.Keys.Keys, declared.lines.Line.Line}
+use Rattle.check_verdict.specs.{declared.Rule.Rule, declared.known.Coming.Coming, declared.known.Keys.Keys, declared.lines.CheckedLine.CheckedLine}
 
 -- keys of a table are sorted, and few
 pub record AreUsable (keys : Keys) : Type 0 where
@@ -28,7 +28,7 @@ abbrev pub is_apart : {n : ℕ} → ℕ → Facts → Outcome n → Bool
 is_apart read f outcome = apart_kept read f.members f.waits f.last_answer f.last_store outcome
 
 -- the queue gives each byte of a line
-abbrev pub is_covered : {n : ℕ} → Line n → ℕ → Coming → Bool
+abbrev pub is_covered : {n : ℕ} → CheckedLine n → ℕ → Coming → Bool
 is_covered {n} kept tick coming = gives_all (cover_kept n tick coming.soonest kept.unclosed kept.runs.items)
 
 module _ (rules : Rules) (number : ℕ) (f : Facts) where
@@ -49,7 +49,7 @@ module _ (rules : Rules) (number : ℕ) (f : Facts) where
       (write_timely r.tick (stored_by keys cuts r.tick r.outcome) r.outcome && is_apart rules.read_ticks f r.outcome)
 
   -- the verdict on a read, by what is kept of its line in place of its newest bytes
-  abbrev pub read_verdict : {n : ℕ} → Line n → ℕ → Row n → Bool → Keys → Coming → List ℕ → Option Rule
+  abbrev pub read_verdict : {n : ℕ} → CheckedLine n → ℕ → Row n → Bool → Keys → Coming → List ℕ → Option Rule
   read_verdict kept line r room keys coming cuts =
       first_broken (may_have r.tick r.asks kept.newest r.outcome) room
       (read_fits rules.reads (length f.waits + f.lost) (is_covered kept r.tick coming) (at_head_kept keys.lines.items line r.tick f.members) r.outcome)

@@ -4,7 +4,7 @@ use Rattle.result_rows.specs.declared.Outcome.{Outcome}
 use Rattle.row_rules.specs.{Rows.newest, declared.Row.Row, declared.Rules.Rules}
 use Rattle.check_judging.specs.{Cutting.cut_ticks, Keys.{reach, is_short, all_short, store_keys, read_keys}, Rising.rising, Runs.GivesSized}
 use Rattle.check_verdict.specs.{Covering.KeptLine, Judged.{beside, a_write, a_read, RoomIs}, RowVerdicts.{coming_to, write_verdict, read_verdict}, States.{Facts, Stands}}
-use Rattle.check_verdict.specs.{Tables.around, Verdicts.{bank_in, all_rules, broken_by}, declared.known.Keys.Keys, declared.lines.Line.Line}
+use Rattle.check_verdict.specs.{Tables.around, Verdicts.{bank_in, all_rules, broken_by}, declared.known.Keys.Keys, declared.lines.CheckedLine.CheckedLine}
 
 -- keys of a whole table, around one of its rows
 pub record HasKeys {n : ℕ} (banks : List ℕ) (before : List (Row n)) (r : Row n) (after : List (Row n)) (keys : Keys) : Type 0 where
@@ -36,7 +36,7 @@ WriteVerdictLaw =
 abbrev pub ReadVerdictLaw : Type 0
 ReadVerdictLaw =
     (n now tick line : ℕ) (outcome : Outcome n) (rules : Rules) (banks : List ℕ)
-    (before after : List (Row n)) (f : Facts) (room : Bool) (keys : Keys) (kept : Line n)
+    (before after : List (Row n)) (f : Facts) (room : Bool) (keys : Keys) (kept : CheckedLine n)
     → let r = a_read tick line outcome in
     Comes rules banks line before r after f → RoomIs rules banks line before r after room → HasKeys banks before r after keys
     → KeptLine n now line (beside banks line before) kept.newest kept.unclosed kept.runs.items → now ≤ tick

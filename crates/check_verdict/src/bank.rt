@@ -17,7 +17,7 @@ use std::alloc::{AllocError, Global};
 
 /// What is kept of a bank, in place of the rows that have passed.
 #[derive(Drop)]
-pub struct Bank {
+pub struct CheckedBank {
     /// The writes that stand in its queue, the oldest first.
     pub members: Vec<Member>,
     /// The ticks of the reads that wait and are read later.
@@ -63,12 +63,12 @@ fn let_merge(members: &mut Vec<Member>, has_mates: bool, line: u32)
     }
 }
 
-impl Bank {
+impl CheckedBank {
     /// A bank of which no row has passed.
-    pub fn new(alloc: Global) -> Bank
+    pub fn new(alloc: Global) -> CheckedBank
         ensures { facts_of result ≡ spec.no_facts }
     {
-        Bank {
+        CheckedBank {
             members: Vec::new(alloc),
             waits: Vec::new(alloc),
             lost: 0,

@@ -15,11 +15,11 @@ ghost use Rattle.check_verdict.specs.Within.{AreWithin};
 ghost use Rattle.trace_rows.specs.Rows.{asks_of};
 
 use crate::Rule;
-use crate::bank::Bank;
+use crate::bank::CheckedBank;
 use crate::judging::lies_apart;
 use crate::keys::{between, key, up_to};
-use crate::known::{Arrival, Grounds, Keys};
-use crate::lines::{Line, is_covered};
+use crate::known::{Arrival, JudgingGrounds, Keys};
+use crate::lines::{CheckedLine, is_covered};
 use crate::members::Member;
 use crate::queue::{is_at_head, write_fits};
 use crate::reads::{read_fits, read_in_time};
@@ -136,7 +136,7 @@ fn read_fits_queue<const B: usize>(
 }
 
 /// Whether a row's action lies apart from those that its bank still knows of.
-fn is_apart<const B: usize>(read: u32, bank: &Bank, outcome: &Outcome<B>) -> bool
+fn is_apart<const B: usize>(read: u32, bank: &CheckedBank, outcome: &Outcome<B>) -> bool
     requires { IsTrue (is_short outcome.now) }
     ensures { result ≡ is_apart read (facts_of bank.now) outcome.now }
 {
@@ -152,9 +152,9 @@ fn is_apart<const B: usize>(read: u32, bank: &Bank, outcome: &Outcome<B>) -> boo
 
 /// The verdict on a write, by the number of its line's bank, what is kept of that bank, and the line's newest bytes.
 pub fn judge_write<const B: usize>(
-    grounds: Grounds,
+    grounds: JudgingGrounds,
     number: u8,
-    bank: &Bank,
+    bank: &CheckedBank,
     newest: &[u8; B],
     row: Arrival,
     op: &EventOp<B>,
@@ -189,10 +189,10 @@ pub fn judge_write<const B: usize>(
 
 /// The verdict on a read, by the number of its line's bank, and what is kept of that bank and of the line.
 pub fn judge_read<const B: usize>(
-    grounds: Grounds,
+    grounds: JudgingGrounds,
     number: u8,
-    bank: &Bank,
-    line: &Line<B>,
+    bank: &CheckedBank,
+    line: &CheckedLine<B>,
     row: Arrival,
     op: &EventOp<B>,
     outcome: &Outcome<B>,

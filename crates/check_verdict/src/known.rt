@@ -22,7 +22,7 @@ pub struct Coming {
 /// What a row is judged by beside what is kept: the rules, the bank of each line, the keys of the table, and what the rows
 /// behind it bring, with the ticks of the cuts among them.
 #[derive(Clone, Copy)]
-pub struct Grounds<'a> {
+pub struct JudgingGrounds<'a> {
     pub rules: &'a Rules,
     pub banks: &'a [u8],
     pub keys: &'a Keys,

@@ -57,7 +57,7 @@ pub fn is_covered<const B: usize>(
 
 /// What is kept of a line: its newest bytes, which bytes its writes give since its last stored one, and the runs before.
 #[derive(Drop)]
-pub struct Line<const B: usize> {
+pub struct CheckedLine<const B: usize> {
     pub newest: [u8; B],
     pub unclosed: [bool; B],
     pub runs: Vec<Run<B>>,
@@ -76,14 +76,14 @@ fn let_close<const B: usize>(runs: &mut Vec<Run<B>>, now: u64)
     }
 }
 
-impl<const B: usize> Line<B> {
+impl<const B: usize> CheckedLine<B> {
     /// A line of which no write has passed.
-    pub fn new(alloc: Global) -> Line<B>
+    pub fn new(alloc: Global) -> CheckedLine<B>
         ensures newest { result.newest ≡ replicate B 0 }
         ensures unclosed { result.unclosed ≡ none_given B }
         ensures runs { result.runs.items ≡ [] }
     {
-        Line {
+        CheckedLine {
             newest: [0; B],
             unclosed: [false; B],
             runs: Vec::new(alloc),

@@ -12,7 +12,7 @@ ghost use Rattle.disk_bytes.specs.Parts.{IsReady, HasPart, Patches, part, next_p
 use crate::copying::{fetch, lay};
 use crate::pieces::{Piece, first_piece};
 use atomic_sectors::{Layout, Lines, Sectors, Stopped, opened};
-use disk_rules::{Refusal, pieces_make_a_write};
+use disk_rules::{DiskRefusal, pieces_make_a_write};
 use std::alloc::{AllocError, Global};
 
 /// A disk: how its sectors lie on lines, what is known of them, and room for the lines of one.
@@ -252,15 +252,15 @@ impl<const B: usize> Disk<B> {
     }
 
     /// Why so many bytes from an offset on can't be asked of it, if they can't.
-    pub fn refusal<L: Lines<B>>(&self, lines: &L, at: u64, asked: u64) -> Option<Refusal>
+    pub fn refusal<L: Lines<B>>(&self, lines: &L, at: u64, asked: u64) -> Option<DiskRefusal>
         requires fits { Fits B self.now.layout (L.count (L.kind lines.now)) }
         ensures { result ≡ refusal (disk_size B self.now.layout) at asked }
     {
         let size = self.size(lines);
         if asked == 0 {
-            Some(Refusal::Empty)
+            Some(DiskRefusal::Empty)
         } else if at > size || asked > size - at {
-            Some(Refusal::Outside)
+            Some(DiskRefusal::Outside)
         } else {
             None
         }

@@ -5,13 +5,13 @@ ghost use Rattle.atomic_sectors.specs.Sectors.{Fits};
 ghost use Rattle.atomic_sectors.specs.Stops.{RoseBy};
 ghost use Rattle.disk_rules.specs.Disk.{Written, told};
 ghost use Rattle.disk_rules.specs.Standing.{HoldsDisk};
-ghost use Rattle.disk_rules.specs.declared.{Request.Request, Answer.Answer};
+ghost use Rattle.disk_rules.specs.declared.{DiskRequest.DiskRequest, DiskAnswer.DiskAnswer};
 ghost use Rattle.disk_bytes.specs.Parts.{IsReady};
 ghost use Rattle.disk_bytes.specs.Serving.{IsServed, Reads, Writes, stops_of, stops_in};
 
 use crate::disk::Disk;
 use atomic_sectors::{Lines, Stopped};
-use disk_rules::{Answer, Request};
+use disk_rules::{DiskAnswer, DiskRequest};
 use std::alloc::{AllocError, Global};
 
 /// Serves one request.
@@ -19,11 +19,11 @@ pub fn serve<const B: usize, L: Lines<B>>(
     alloc: Global,
     disk: &mut Disk<B>,
     lines: &mut L,
-    request: &Request,
-) -> Answer
+    request: &DiskRequest,
+) -> DiskAnswer
     requires fits { Fits B disk.old.layout (L.count (L.kind lines.old)) }
     requires ready { IsReady B (L.made lines.old) disk.old }
-    ensures served { (asked : List (Request × Answer))
+    ensures served { (asked : List (DiskRequest × DiskAnswer))
         → IsServed B disk.old.layout asked (L.made lines.old)
         → IsServed B disk.old.layout ((request.now, result) ∷ asked) (L.made lines.new) }
     ensures ready { IsReady B (L.made lines.new) disk.new }
@@ -32,9 +32,9 @@ pub fn serve<const B: usize, L: Lines<B>>(
     ensures kind { L.kind lines.new ≡ L.kind lines.old }
 {
     match request {
-        Request::Read { at, size } => read(alloc, disk, lines, *at, *size),
-        Request::Write { at, bytes } => write(disk, lines, *at, bytes.as_slice()),
-        Request::Flush => Answer::Done,
+        DiskRequest::Read { at, size } => read(alloc, disk, lines, *at, *size),
+        DiskRequest::Write { at, bytes } => write(disk, lines, *at, bytes.as_slice()),
+        DiskRequest::Flush => DiskAnswer::Done,
     }
 }
 
@@ -52,7 +52,7 @@ fn read<const B: usize, L: Lines<B>>(
     lines: &mut L,
     at: u64,
     size: u32,
-) -> Answer
+) -> DiskAnswer
     requires fits { Fits B disk.old.layout (L.count (L.kind lines.old)) }
     requires ready { IsReady B (L.made lines.old) disk.old }
     ensures reads { Reads B disk.old.layout (stand B (L.made lines.old)) at size result }
@@ -63,14 +63,14 @@ fn read<const B: usize, L: Lines<B>>(
     ensures kind { L.kind lines.new ≡ L.kind lines.old }
 {
     if let Some(refusal) = disk.refusal(lines, at, u64::from(size)) {
-        return Answer::Refused(refusal);
+        return DiskAnswer::Refused(refusal);
     }
     let Ok(mut to) = zeros(alloc, size) else {
-        return Answer::Stopped(Stopped::Memory);
+        return DiskAnswer::Stopped(Stopped::Memory);
     };
     match disk.read(lines, at, to.as_mut_slice()) {
-        Ok(()) => Answer::Bytes(to),
-        Err(why) => Answer::Stopped(why),
+        Ok(()) => DiskAnswer::Bytes(to),
+        Err(why) => DiskAnswer::Stopped(why),
     }
 }
 
@@ -80,7 +80,7 @@ fn write<const B: usize, L: Lines<B>>(
     lines: &mut L,
     at: u64,
     bytes: &[u8],
-) -> Answer
+) -> DiskAnswer
     requires fits { Fits B disk.old.layout (L.count (L.kind lines.old)) }
     requires ready { IsReady B (L.made lines.old) disk.old }
     ensures writes { (before : List Written)
@@ -92,11 +92,11 @@ fn write<const B: usize, L: Lines<B>>(
     ensures kind { L.kind lines.new ≡ L.kind lines.old }
 {
     if let Some(refusal) = disk.refusal(lines, at, bytes.len() as u64) {
-        return Answer::Refused(refusal);
+        return DiskAnswer::Refused(refusal);
     }
     match disk.write(lines, at, bytes) {
-        Ok(()) => Answer::Done,
-        Err(why) => Answer::Stopped(why),
+        Ok(()) => DiskAnswer::Done,
+        Err(why) => DiskAnswer::Stopped(why),
     }
 }
 
@@ -109,11 +109,11 @@ pub fn serve_all<const B: usize, L: Lines<B>>(
     alloc: Global,
     disk: &mut Disk<B>,
     lines: &mut L,
-    requests: &[Request],
-) -> Result<Vec<Answer>, AllocError>
+    requests: &[DiskRequest],
+) -> Result<Vec<DiskAnswer>, AllocError>
     requires fits { Fits B disk.old.layout (L.count (L.kind lines.old)) }
     requires ready { IsReady B (L.made lines.old) disk.old }
-    ensures served { IfOk result (λ answers. (asked : List (Request × Answer))
+    ensures served { IfOk result (λ answers. (asked : List (DiskRequest × DiskAnswer))
         → IsServed B disk.old.layout asked (L.made lines.old)
         → IsServed B disk.old.layout (told asked requests.now answers.items) (L.made lines.new)) }
     ensures all { IfOk result (λ answers. length answers.items ≡ length requests.now) }

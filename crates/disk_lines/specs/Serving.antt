@@ -3,7 +3,7 @@ use Rattle.std.specs.Prelude.{ℕ, List}
 use Rattle.row_rules.specs.Rows.{newest}
 use Rattle.pcm_module.specs.State.{ModuleState}
 use Rattle.atomic_sectors.specs.declared.layout.Layout.{Layout}
-use Rattle.disk_rules.specs.{Disk.{IsDisk, Written}, Standing.{HoldsDisk, disk_size, sector_size}, declared.Answer.Answer, declared.Request.Request}
+use Rattle.disk_rules.specs.{Disk.{IsDisk, Written}, Standing.{HoldsDisk, disk_size, sector_size}, declared.DiskAnswer.DiskAnswer, declared.DiskRequest.DiskRequest}
 use Rattle.disk_lines.specs.{Asking.rows_heard, Places.place_of, declared.watch.Heard.Heard}
 
 module _ {n m e : ℕ} (module_ : ModuleState n m e) (heard : List (Heard n)) where
@@ -12,7 +12,7 @@ module _ {n m e : ℕ} (module_ : ModuleState n m e) (heard : List (Heard n)) wh
   bytes_by_rows line = newest (rows_heard heard) (place_of module_.shape module_.seed line)
 
   -- the answers are those of a disk on which these writes were made, and all of them are in the module, by its rows
-  pub record IsDiskByRows (layout : Layout) (asked : List (Request × Answer)) : Type 0 where
+  pub record IsDiskByRows (layout : Layout) (asked : List (DiskRequest × DiskAnswer)) : Type 0 where
     pub writes : List Written
     pub answers : IsDisk (disk_size n layout) (sector_size n layout) asked writes
     pub rows : HoldsDisk n layout bytes_by_rows writes

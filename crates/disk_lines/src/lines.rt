@@ -11,7 +11,7 @@ ghost use Rattle.disk_lines.specs.Lines.{StandsByRows};
 
 use crate::cuts::Cuts;
 use crate::places::Places;
-use crate::rows::Running;
+use crate::rows::RunningModule;
 use crate::watch::Watch;
 use atomic_sectors::{Lines, Put, Stopped};
 use cell_rows::{CellArray, Wear};
@@ -25,7 +25,7 @@ use std::marker::Model;
 /// waited for, and a write waits for room in its bank's queue.
 #[derive(Drop)]
 pub struct PcmLines<const B: usize, const M: usize, const E: usize, A: CellArray<B, M> + Drop> {
-    running: Running<B, M, E, A>,
+    running: RunningModule<B, M, E, A>,
     places: Places,
     // For contracts alone: one byte.
     puts: GhostList<Put<B>>,
@@ -85,7 +85,7 @@ impl<const B: usize, const M: usize, const E: usize, A: CellArray<B, M> + Drop> 
             came: 0,
         };
         Ok(PcmLines {
-            running: Running {
+            running: RunningModule {
                 module,
                 array,
                 watch,

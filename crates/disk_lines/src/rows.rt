@@ -1,5 +1,5 @@
 // A module over its array as rows come.
-ghost use Rattle.std.specs.Prelude.{◌≡◌, ◌∷◌, ◌<◌, ◌≤◌, length, IfOk, IfErr, OnOk, OnErr, IfSome, false};
+ghost use Rattle.std.specs.Prelude.{◌≡◌, ◌∷◌, ◌<◌, ◌≤◌, length, IfOk, IfErr, OnOk, OnErr, IfSome, IsSomeAnd, slice_get, false};
 ghost use Rattle.ecp_line.specs.Layout.{IsLayout};
 ghost use Rattle.masked_bytes.specs.Masked.{all_given};
 ghost use Rattle.trace_reader.specs.Events.{IsEventFor, IsOpFor};
@@ -7,6 +7,7 @@ ghost use Rattle.trace_reader.specs.Rows.{latest_tick};
 ghost use Rattle.row_rules.specs.Rows.{newest};
 ghost use Rattle.module_shape.specs.Limits.{total_of};
 ghost use Rattle.disk_lines.specs.Asking.{HasCause, HasHeard, IsLater, IsWriteOf, LaysOver, Passes, SameLines, TakesRow, is_full, rows_heard, most_rows};
+ghost use Rattle.pcm_module.specs.Settling.{IsAtTick};
 ghost use Rattle.pcm_module.specs.State.{bank_at};
 ghost use Rattle.disk_lines.specs.Cutting.{come_from, left_of, left_behind};
 ghost use Rattle.disk_lines.specs.Hearing.{events_in};
@@ -33,7 +34,7 @@ const LAST_ROW: u32 = 4_294_967_294;
 
 /// A module over its array, what was heard of its rows, and when the power is to be cut.
 #[derive(Drop)]
-pub(crate) struct Running<
+pub(crate) struct RunningModule<
     const B: usize,
     const M: usize,
     const E: usize,
@@ -45,7 +46,7 @@ pub(crate) struct Running<
     pub(crate) cuts: Cuts,
 }
 
-impl<const B: usize, const M: usize, const E: usize, A: CellArray<B, M> + Drop> Running<
+impl<const B: usize, const M: usize, const E: usize, A: CellArray<B, M> + Drop> RunningModule<
     B,
     M,
     E,
@@ -74,21 +75,25 @@ impl<const B: usize, const M: usize, const E: usize, A: CellArray<B, M> + Drop> 
         let _ = self.watch.last();
     }
 
-    // Every bank comes to a tick, and no row comes.
-    fn pass_to(&mut self, tick: u64)
+    // Time passes to a tick, a bank comes to it, and no row comes.
+    fn pass_to(&mut self, bank: u32, tick: u64)
         requires layout { IsLayout B M E }
+        requires exists { bank < self.old.module.shape.banks }
         requires rises { self.old.module.tick ≤ tick }
         requires in_time { tick ≤ latest_tick }
         requires has { HasHeard self.old.module (A.state self.old.array) self.old.watch.heard }
         ensures has { HasHeard self.new.module (A.state self.new.array) self.new.watch.heard }
         ensures passes { Passes self.old.module self.new.module tick self.old.watch.heard
             self.new.watch.heard }
+        ensures settled { IsSomeAnd (slice_get self.new.module.banks bank)
+            (IsAtTick self.new.module.tick) }
         ensures wear { (A.state self.new.array).wear ≡ (A.state self.old.array).wear }
         ensures cuts { self.new.cuts ≡ self.old.cuts }
     {
         no_settle_takes_back_bytes();
         let _ = self.module.shape();
-        self.module.settle(&mut self.array, tick, &mut self.watch);
+        self.module
+            .settle_bank(&mut self.array, bank, tick, &mut self.watch);
         let _ = self.watch.rows();
     }
 
@@ -121,9 +126,10 @@ impl<const B: usize, const M: usize, const E: usize, A: CellArray<B, M> + Drop> 
         Stopped::Cut
     }
 
-    // Time passes to a tick, or to a cut that comes by then.
-    fn go_on(&mut self, tick: u64) -> Result<(), Stopped>
+    // Time passes to a tick, to which a bank comes, or to a cut that comes by then.
+    fn go_on(&mut self, bank: u32, tick: u64) -> Result<(), Stopped>
         requires layout { IsLayout B M E }
+        requires exists { bank < self.old.module.shape.banks }
         requires rises { self.old.module.tick ≤ tick }
         requires in_time { tick ≤ latest_tick }
         requires has { HasHeard self.old.module (A.state self.old.array) self.old.watch.heard }
@@ -136,12 +142,14 @@ impl<const B: usize, const M: usize, const E: usize, A: CellArray<B, M> + Drop> 
         ensures cause { IfErr result (λ why. HasCause why self.new.module.tick self.old.watch.heard
             self.new.watch.heard) }
         ensures tick { OnOk result (self.new.module.tick ≡ tick) }
+        ensures settled { OnOk result (IsSomeAnd (slice_get self.new.module.banks bank)
+            (IsAtTick self.new.module.tick)) }
         ensures events { OnOk result (events_in self.new.watch.heard ≡ events_in self.old.watch.heard) }
     {
         match self.cuts.due_by(self.module.tick(), tick) {
             Some(at) => Err(self.cut(at)),
             None => {
-                self.pass_to(tick);
+                self.pass_to(bank, tick);
                 Ok(())
             }
         }
@@ -164,7 +172,7 @@ impl<const B: usize, const M: usize, const E: usize, A: CellArray<B, M> + Drop> 
         Ok(next.min(LAST_TICK).max(now + 1))
     }
 
-    // Time passes until what a bank does next ends.
+    // Time passes until what a bank does next ends; the other banks go on later, each when it is asked for something.
     fn step(&mut self, bank: u32) -> Result<(), Stopped>
         requires layout { IsLayout B M E }
         requires exists { bank < self.old.module.shape.banks }
@@ -179,10 +187,12 @@ impl<const B: usize, const M: usize, const E: usize, A: CellArray<B, M> + Drop> 
             self.new.watch.heard) }
         ensures further { OnOk result ((self.old.module.tick < self.new.module.tick)
             × (self.new.module.tick ≤ latest_tick)) }
+        ensures settled { OnOk result (IsSomeAnd (slice_get self.new.module.banks bank)
+            (IsAtTick self.new.module.tick)) }
         ensures events { OnOk result (events_in self.new.watch.heard ≡ events_in self.old.watch.heard) }
     {
         let tick = self.next_end(bank)?;
-        self.go_on(tick)
+        self.go_on(bank, tick)
     }
 
     // Time passes until the last row has its outcome; its bank is this one.

@@ -4,7 +4,7 @@ ghost use Rattle.atomic_sectors.specs.Sectors.{Fits};
 ghost use Rattle.atomic_sectors.specs.Stops.{RoseBy};
 ghost use Rattle.module_shape.specs.Limits.{total_of};
 ghost use Rattle.disk_rules.specs.Disk.{told};
-ghost use Rattle.disk_rules.specs.declared.{Request.Request, Answer.Answer};
+ghost use Rattle.disk_rules.specs.declared.{DiskRequest.DiskRequest, DiskAnswer.DiskAnswer};
 ghost use Rattle.disk_bytes.specs.Parts.{IsReady};
 ghost use Rattle.disk_bytes.specs.Serving.{IsServed, stops_in};
 ghost use Rattle.disk_lines.specs.Asking.{HasHeard, stops_at};
@@ -15,7 +15,7 @@ ghost use Rattle.disk_lines.specs.Serving.{IsDiskByRows};
 use crate::lines::PcmLines;
 use cell_rows::CellArray;
 use disk_bytes::{Disk, serve_all};
-use disk_rules::{Answer, Request, lines_that_agree_are_one_disk};
+use disk_rules::{DiskAnswer, DiskRequest, lines_that_agree_are_one_disk};
 use std::alloc::{AllocError, Global};
 
 /// Serves requests by a module, whatever power cuts come, and however cells miss, tear or stick: the answers are those of a disk, and all writes are in the
@@ -25,15 +25,15 @@ pub fn serve_disk<const B: usize, const M: usize, const E: usize, A: CellArray<B
     alloc: Global,
     disk: &mut Disk<B>,
     lines: &mut PcmLines<B, M, E, A>,
-    requests: &[Request],
-) -> Result<Vec<Answer>, AllocError>
+    requests: &[DiskRequest],
+) -> Result<Vec<DiskAnswer>, AllocError>
     requires fits { Fits B disk.old.layout (total_of lines.old.module_.shape) }
     requires ready { IsReady B (writes_of lines.old.puts) disk.old }
-    ensures goes_on { IfOk result (λ answers. (asked : List (Request × Answer))
+    ensures goes_on { IfOk result (λ answers. (asked : List (DiskRequest × DiskAnswer))
         → IsServed B disk.old.layout asked (writes_of lines.old.puts)
         → IsServed B disk.old.layout (told asked requests.now answers.items)
         (writes_of lines.new.puts)) }
-    ensures served { IfOk result (λ answers. (asked : List (Request × Answer))
+    ensures served { IfOk result (λ answers. (asked : List (DiskRequest × DiskAnswer))
         → IsServed B disk.old.layout asked (writes_of lines.old.puts)
         → IsDiskByRows lines.new.module_ lines.new.heard disk.old.layout
         (told asked requests.now answers.items)) }

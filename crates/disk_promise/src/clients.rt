@@ -2,7 +2,7 @@
 ghost use Rattle.std.specs.Prelude.{◌≡◌, [], List};
 ghost use Rattle.atomic_sectors.specs.Sectors.{Fits};
 ghost use Rattle.module_shape.specs.Limits.{total_of};
-ghost use Rattle.disk_rules.specs.declared.{Request.Request, Answer.Answer};
+ghost use Rattle.disk_rules.specs.declared.{DiskRequest.DiskRequest, DiskAnswer.DiskAnswer};
 ghost use Rattle.disk_bytes.specs.Parts.{IsReady};
 ghost use Rattle.disk_bytes.specs.Serving.{IsServed};
 ghost use Rattle.disk_lines.specs.Asking.{HasHeard};
@@ -49,7 +49,7 @@ pub fn serve_client<
         lines.old)
         (seen S.left S.taken S.faults K.written K.faults made_on stops_on source.new sink.new
         lines.new) result)
-        × ((earlier : List (Request × Answer))
+        × ((earlier : List (DiskRequest × DiskAnswer))
         → IsServed B disk.old.layout earlier (writes_of lines.old.puts)
         → IsDiskKept lines.new.module_ (A.state lines.new.array) lines.new.heard disk.old.layout
         (asked session.messages earlier))

@@ -7,7 +7,7 @@ ghost use Rattle.atomic_sectors.specs.Sectors.{Fits};
 ghost use Rattle.atomic_sectors.specs.Stops.{RoseBy};
 ghost use Rattle.module_shape.specs.Limits.{total_of};
 ghost use Rattle.disk_rules.specs.Disk.{told};
-ghost use Rattle.disk_rules.specs.declared.{Request.Request, Answer.Answer};
+ghost use Rattle.disk_rules.specs.declared.{DiskRequest.DiskRequest, DiskAnswer.DiskAnswer};
 ghost use Rattle.disk_bytes.specs.Parts.{IsReady};
 ghost use Rattle.disk_bytes.specs.Serving.{IsServed, stops_in};
 ghost use Rattle.disk_lines.specs.Asking.{HasHeard, stops_at};
@@ -21,7 +21,9 @@ use cell_rows::CellArray;
 pub use clients::serve_client;
 use disk_bytes::Disk;
 use disk_lines::PcmLines;
-use disk_rules::{Answer, Request, lines_that_agree_are_one_disk, new_lines_are_a_new_disk};
+use disk_rules::{
+    DiskAnswer, DiskRequest, lines_that_agree_are_one_disk, new_lines_are_a_new_disk,
+};
 use moment_laws::no_moment_loses_bytes;
 use std::alloc::{AllocError, Global};
 
@@ -46,15 +48,15 @@ pub fn serve_disk<const B: usize, const M: usize, const E: usize, A: CellArray<B
     alloc: Global,
     disk: &mut Disk<B>,
     lines: &mut PcmLines<B, M, E, A>,
-    requests: &[Request],
-) -> Result<Vec<Answer>, AllocError>
+    requests: &[DiskRequest],
+) -> Result<Vec<DiskAnswer>, AllocError>
     requires fits { Fits B disk.old.layout (total_of lines.old.module_.shape) }
     requires ready { IsReady B (writes_of lines.old.puts) disk.old }
-    ensures goes_on { IfOk result (λ answers. (asked : List (Request × Answer))
+    ensures goes_on { IfOk result (λ answers. (asked : List (DiskRequest × DiskAnswer))
         → IsServed B disk.old.layout asked (writes_of lines.old.puts)
         → IsServed B disk.old.layout (told asked requests.now answers.items)
         (writes_of lines.new.puts)) }
-    ensures kept { IfOk result (λ answers. (asked : List (Request × Answer))
+    ensures kept { IfOk result (λ answers. (asked : List (DiskRequest × DiskAnswer))
         → IsServed B disk.old.layout asked (writes_of lines.old.puts)
         → IsDiskKept lines.new.module_ (A.state lines.new.array) lines.new.heard disk.old.layout
         (told asked requests.now answers.items)) }

@@ -11,7 +11,7 @@ use atomic_sectors::laws::new_lines_are_whole_sectors;
 
 /// What a disk is asked for.
 #[derive(Drop)]
-pub enum Request {
+pub enum DiskRequest {
     /// So many bytes, from an offset on.
     Read { at: u64, size: u32 },
     /// That these bytes are kept, from an offset on.
@@ -23,7 +23,7 @@ pub enum Request {
 
 /// Why a request is refused, whatever the disk holds.
 #[derive(Clone, Copy, Debug, PartialEq, Eq)]
-pub enum Refusal {
+pub enum DiskRefusal {
     /// It is of no bytes.
     Empty,
     /// It isn't all within the disk.
@@ -32,13 +32,13 @@ pub enum Refusal {
 
 /// What a disk answers.
 #[derive(Drop)]
-pub enum Answer {
+pub enum DiskAnswer {
     /// It was done.
     Done,
     /// The bytes that were asked for.
     Bytes(Vec<u8>),
     /// Nothing was done, since there is no such request.
-    Refused(Refusal),
+    Refused(DiskRefusal),
     /// It was stopped: of a write, some first bytes were written, up to the end of a sector.
     Stopped(Stopped),
 }

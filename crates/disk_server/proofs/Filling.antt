@@ -1,7 +1,7 @@
 -- Bytes that several reads bring into one buffer.
 use Rattle.std.proofs.Common.{◌≡◌, ℕ, ◌+◌, ◌<◌, ◌≤◌, List, ◌++◌, length, take, Option, sym, ap, ◌∙◌, subst, length-append, arith}
 use Rattle.std.{specs.Prelude.{IfErr, Result, Err}, proofs.Math.Seq.take-append-add, proofs.lemmas.List.{length-take-le, take-append-le}}
-use Rattle.disk_server.specs.{Endings.{IsPart, NoneFollows}, Reading.StopsAmid, declared.phase.Ended.Ended, declared.phase.Phase.Phase}
+use Rattle.disk_server.specs.{Endings.{IsPart, NoneFollows}, Reading.StopsAmid, declared.phase.Ended.Ended, declared.phase.SessionPhase.SessionPhase}
 use Rattle.disk_server.specs.declared.phase.Ended.TheVariants as by
 use borrow.Rule.Slice.PartMut.{put_mid, post_of}
 
@@ -36,7 +36,7 @@ amid_before by.Unwritten left before mid now le stops = absurd stops
 amid_before by.Endless left before mid now le stops = absurd stops
 
 -- a message that isn't whole is followed by none
-pub amid_none : (ended : Ended) (phase : Phase) (bytes : List ℕ) (left : Option (List ℕ)) (before now : ℕ) → 0 < length bytes → IsPart phase bytes
+pub amid_none : (ended : Ended) (phase : SessionPhase) (bytes : List ℕ) (left : Option (List ℕ)) (before now : ℕ) → 0 < length bytes → IsPart phase bytes
     → StopsAmid ended left before now → NoneFollows ended phase bytes left before now
 amid_none by.Left phase bytes left before now some part stops = absurd stops
 amid_none by.Closed phase bytes left before now some part stops = absurd stops

@@ -8,7 +8,7 @@ use Rattle.nbd_frames.specs.Options.{greeting}
 use Rattle.disk_server.specs.{Endings.NoneFollows, Exchanges.stops_behind}
 use Rattle.disk_server.specs.Messages.{AreMessages, Message, Flags, Chooses, Asks, answered, asked, phase_of, sent, sent_by, stops_by_message, stops_of_all}
 use Rattle.disk_server.specs.{Sessions.{Answers, EndsBy, IsSession, IsUnanswered, IsWithout, Seen, Serves, StopsBy, Writes}, declared.answering.OnCut.OnCut}
-use Rattle.disk_server.{specs.declared.phase.Ended.Ended, specs.declared.phase.Phase.Phase, proofs.Stepping.idle}
+use Rattle.disk_server.{specs.declared.phase.Ended.Ended, specs.declared.phase.SessionPhase.SessionPhase, proofs.Stepping.idle}
 use Rattle.disk_server.specs.declared.phase.Ended.TheVariants as by
 
 -- a message adds its stops to those before
@@ -51,7 +51,7 @@ module _ (n : ℕ) (layout : Layout) where
       takes_more message takes =
           Takes-Takes was.left mid.left now.left was.taken mid.taken now.taken (sent before) (sent_by message) had.takes takes
 
-      pub has_more : (next : Phase) → Answers n layout mode (phase_of before) mid now next → mid.unread ≤ now.unread → mid.unwritten ≤ now.unwritten
+      pub has_more : (next : SessionPhase) → Answers n layout mode (phase_of before) mid now next → mid.unread ≤ now.unread → mid.unwritten ≤ now.unwritten
           → (message : Message) × Has was now (message ∷ before) × (next ≡ phase_of (message ∷ before))
       has_more next answers unread unwritten =
           let comes = answers.0 in
@@ -125,17 +125,17 @@ module _ (n : ℕ) (layout : Layout) where
       ]
 
       -- the same, by another name of the layout and of where the two stand
-      module _ (its : Layout) (phase : Phase) (layout_is : its ≡ layout) (phase_is : phase ≡ phase_of before) where
+      module _ (its : Layout) (phase : SessionPhase) (layout_is : its ≡ layout) (phase_is : phase ≡ phase_of before) where
         pub ends_at : (ended : Ended) → StopsBy n its mode phase mid now ended → IsSession n layout mode was now ended
         ends_at ended stops =
             ends_so ended (subst (λ (l : Layout). StopsBy n l mode (phase_of before) mid now ended) layout_is
-            (subst (λ (p : Phase). StopsBy n its mode p mid now ended) phase_is stops))
+            (subst (λ (p : SessionPhase). StopsBy n its mode p mid now ended) phase_is stops))
 
-        pub more_at : (next : Phase) → Answers n its mode phase mid now next → mid.unread ≤ now.unread → mid.unwritten ≤ now.unwritten
+        pub more_at : (next : SessionPhase) → Answers n its mode phase mid now next → mid.unread ≤ now.unread → mid.unwritten ≤ now.unwritten
             → (message : Message) × Has was now (message ∷ before) × (next ≡ phase_of (message ∷ before))
         more_at next answers unread unwritten =
             has_more next (subst (λ (l : Layout). Answers n l mode (phase_of before) mid now next) layout_is
-            (subst (λ (p : Phase). Answers n its mode p mid now next) phase_is answers)) unread unwritten
+            (subst (λ (p : SessionPhase). Answers n its mode p mid now next) phase_is answers)) unread unwritten
 
     -- a greeting was written, or it wasn't written whole
     module _ (was now : Seen) (left : now.left ≡ was.left) (taken : now.taken ≡ was.taken) (made : now.made ≡ was.made) (stops : now.stops ≡ was.stops) where

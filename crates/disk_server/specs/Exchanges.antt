@@ -1,9 +1,9 @@
 -- Requests of a client, and what became of them.
 use Rattle.std.specs.Prelude.{◌≡◌, ◌≢◌, ◌⊎◌, ℕ, ◌+◌, ◌-◌, ◌^◌, ◌&&◌, nat_lt, nat_le, Bool, true, false, List, [], ◌∷◌, ◌++◌, length, replicate, Option, Some, None, Result, Ok, Err}
 use Rattle.atomic_sectors.specs.declared.lines.Stopped.TheVariants as why
-use Rattle.disk_rules.specs.{declared.Answer.Answer, declared.Request.Request, declared.Request.TheVariants.{Read, Write, Flush}}
-use Rattle.disk_rules.specs.declared.Answer.TheVariants as says
-use Rattle.disk_rules.specs.declared.Refusal.TheVariants as refusal
+use Rattle.disk_rules.specs.{declared.DiskAnswer.DiskAnswer, declared.DiskRequest.DiskRequest, declared.DiskRequest.TheVariants.{Read, Write, Flush}}
+use Rattle.disk_rules.specs.declared.DiskAnswer.TheVariants as says
+use Rattle.disk_rules.specs.declared.DiskRefusal.TheVariants as refusal
 use Rattle.disk_bytes.specs.Serving.{stops_of}
 use Rattle.nbd_frames.specs.{Requests.{IsHeader, reply_bytes}, declared.replies.Failure.Failure, declared.request.Command.Command, declared.request.RequestHeader.RequestHeader}
 use Rattle.nbd_frames.specs.declared.request.Command.TheVariants as asks
@@ -12,9 +12,9 @@ use Rattle.disk_server.specs.{declared.answering.OnCut.OnCut, declared.answering
 
 -- what the disk was asked for: so many times a power cut stopped it, it was asked again, and this is the last answer
 pub record Served : Type 0 where
-  pub request : Request
+  pub request : DiskRequest
   pub cuts : ℕ
-  pub answer : Answer
+  pub answer : DiskAnswer
 
 -- a request, the bytes that came with it, and what became of it: it was served, or the disk wasn't asked
 pub record Exchange : Type 0 where
@@ -43,13 +43,13 @@ abbrev pub is_request : RequestHeader → Bool
 is_request h = nat_lt h.flags 2 && is_known h.command h.size
 
 -- this is what it asks the disk for
-abbrev pub AsksFor : RequestHeader → List ℕ → Request → Type 0
+abbrev pub AsksFor : RequestHeader → List ℕ → DiskRequest → Type 0
 AsksFor h bytes (Read at size) = (h.command ≡ asks.Read) × (at ≡ h.at) × (size ≡ h.size)
 AsksFor h bytes (Write at given) = (h.command ≡ asks.Write) × (at ≡ h.at) × (given.items ≡ bytes)
 AsksFor h bytes Flush = h.command ≡ asks.Flush
 
 -- whether a power cut stopped it
-abbrev pub is_cut : Answer → Bool
+abbrev pub is_cut : DiskAnswer → Bool
 is_cut (says.Stopped why.Cut) = true
 is_cut _ = false
 
@@ -63,7 +63,7 @@ Rides Ride s = (is_cut s.answer ≡ false) ⊎ (s.cuts ≡ most_cuts)
 Rides Drop s = s.cuts ≡ 0
 
 -- what the client is told of an answer: no failure, or why the request failed
-abbrev pub failure_of : Request → Answer → Option Failure
+abbrev pub failure_of : DiskRequest → DiskAnswer → Option Failure
 failure_of request says.Done = None
 failure_of request (says.Bytes bytes) = None
 failure_of (Write at bytes) (says.Refused refusal.Outside) = Some fails.NoSpace
@@ -74,7 +74,7 @@ failure_of request (says.Stopped why.Ended) = Some fails.Io
 failure_of request (says.Stopped why.Memory) = Some fails.NoMemory
 
 -- the bytes that an answer has
-abbrev pub bytes_of : Answer → List ℕ
+abbrev pub bytes_of : DiskAnswer → List ℕ
 bytes_of (says.Bytes bytes) = bytes.items
 bytes_of _ = []
 
@@ -83,7 +83,7 @@ reply_of cookie (Ok s) = reply_bytes (failure_of s.request s.answer) cookie ++ b
 reply_of cookie (Err failure) = reply_bytes (Some failure) cookie
 
 -- what a request brings: a request to the disk, where there is such a one, else why the disk isn't asked; of a write alone memory may lack
-abbrev pub Brings : RequestHeader → List ℕ → Result Request Failure → Type 0
+abbrev pub Brings : RequestHeader → List ℕ → Result DiskRequest Failure → Type 0
 Brings h bytes (Ok request) = (is_request h ≡ true) × AsksFor h bytes request
 Brings h bytes (Err failure) = ((failure ≡ fails.Invalid) × (is_request h ≡ false)) ⊎ ((failure ≡ fails.NoMemory) × (h.command ≡ asks.Write))
 
@@ -99,7 +99,7 @@ pub record IsExchange (mode : OnCut) (x : Exchange) : Type 0 where
   pub became : Becomes mode x.header x.bytes x.became
 
 -- what the disk was asked for and answered by then, the newest first
-abbrev pub asked_behind : Result Served Failure → List (Request × Answer) → List (Request × Answer)
+abbrev pub asked_behind : Result Served Failure → List (DiskRequest × DiskAnswer) → List (DiskRequest × DiskAnswer)
 asked_behind (Ok s) before = (s.request, s.answer) ∷ (replicate s.cuts (s.request, says.Stopped why.Cut) ++ before)
 asked_behind (Err failure) before = before
 

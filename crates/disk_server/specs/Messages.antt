@@ -1,10 +1,10 @@
 -- What a client and the server of a disk say to each other, message by message.
 use Rattle.std.specs.Prelude.{◌≡◌, ℕ, Bool, true, false, if◌then◌else◌, List, [], ◌∷◌, ◌++◌, length}
-use Rattle.disk_rules.specs.{declared.Answer.Answer, declared.Request.Request}
+use Rattle.disk_rules.specs.{declared.DiskAnswer.DiskAnswer, declared.DiskRequest.DiskRequest}
 use Rattle.nbd_frames.specs.{Numbers.four, Options.{IsOption, are_known, greeting, is_told, option_bytes, replies_to, wants_zeros}, Requests.request_bytes}
 use Rattle.nbd_frames.specs.{declared.handshake.Choice.Choice, declared.handshake.Choice.TheVariants.{ExportName, Abort, Go}, declared.handshake.OptionHeader.OptionHeader}
-use Rattle.disk_server.specs.{Exchanges.{Exchange, IsExchange, asked_behind, reply_of, stops_behind}, declared.answering.OnCut.OnCut, declared.phase.Phase.Phase}
-use Rattle.disk_server.specs.declared.phase.Phase.TheVariants.{Opening, Choosing, Serving, Over}
+use Rattle.disk_server.specs.{Exchanges.{Exchange, IsExchange, asked_behind, reply_of, stops_behind}, declared.answering.OnCut.OnCut, declared.phase.SessionPhase.SessionPhase}
+use Rattle.disk_server.specs.declared.phase.SessionPhase.TheVariants.{Opening, Choosing, Serving, Over}
 
 -- a message of a client: its flags, an option with its data, or a request
 pub data Message : Type 0 where
@@ -13,25 +13,25 @@ pub data Message : Type 0 where
   Asks : Exchange → Message
 
 -- where the two stand behind an option: requests begin where the disk is to be used
-abbrev pub behind_option : Phase → Choice → List ℕ → Phase
+abbrev pub behind_option : SessionPhase → Choice → List ℕ → SessionPhase
 behind_option phase ExportName bytes = Serving
 behind_option phase Abort bytes = Over
 behind_option phase Go bytes = if is_told bytes then Serving else phase
 behind_option phase _ bytes = phase
 
 -- and behind any message
-abbrev pub phase_behind : Phase → Message → Phase
+abbrev pub phase_behind : SessionPhase → Message → SessionPhase
 phase_behind phase (Flags flags) = Choosing (wants_zeros flags)
 phase_behind phase (Chooses h bytes) = behind_option phase h.choice bytes
 phase_behind phase (Asks x) = phase
 
 -- whether the client wants zeros behind the size of the disk
-abbrev pub zeros_in : Phase → Bool
+abbrev pub zeros_in : SessionPhase → Bool
 zeros_in (Choosing zeros) = zeros
 zeros_in _ = false
 
 -- there is such a message, where the two stand so
-abbrev pub IsMessage : OnCut → Phase → Message → Type 0
+abbrev pub IsMessage : OnCut → SessionPhase → Message → Type 0
 IsMessage mode Opening (Flags flags) = are_known flags ≡ true
 IsMessage mode (Choosing zeros) (Chooses h bytes) = IsOption h × (length bytes ≡ h.size)
 IsMessage mode Serving (Asks x) = IsExchange mode x
@@ -44,13 +44,13 @@ sent_by (Chooses h bytes) = option_bytes h ++ bytes
 sent_by (Asks x) = request_bytes x.header ++ x.bytes
 
 -- the bytes that a server with a disk of this size answers
-abbrev pub answered_to : ℕ → Phase → Message → List ℕ
+abbrev pub answered_to : ℕ → SessionPhase → Message → List ℕ
 answered_to size phase (Flags flags) = []
 answered_to size phase (Chooses h bytes) = replies_to size (zeros_in phase) h.choice bytes
 answered_to size phase (Asks x) = reply_of x.header.cookie x.became
 
 -- what the disk was asked for by then, behind what it was asked before
-abbrev pub asked_by : Message → List (Request × Answer) → List (Request × Answer)
+abbrev pub asked_by : Message → List (DiskRequest × DiskAnswer) → List (DiskRequest × DiskAnswer)
 asked_by (Asks x) before = asked_behind x.became before
 asked_by _ before = before
 
@@ -59,7 +59,7 @@ stops_by_message (Asks x) before = stops_behind x.became before
 stops_by_message _ before = before
 
 -- of all messages, the newest first: where the two stand
-abbrev pub phase_of : List Message → Phase
+abbrev pub phase_of : List Message → SessionPhase
 phase_of [] = Opening
 phase_of (message ∷ before) = phase_behind (phase_of before) message
 
@@ -79,7 +79,7 @@ answered size [] = greeting
 answered size (message ∷ before) = answered size before ++ answered_to size (phase_of before) message
 
 -- what the disk was asked for and answered, behind what it was asked before
-abbrev pub asked : List Message → List (Request × Answer) → List (Request × Answer)
+abbrev pub asked : List Message → List (DiskRequest × DiskAnswer) → List (DiskRequest × DiskAnswer)
 asked [] earlier = earlier
 asked (message ∷ before) earlier = asked_by message (asked before earlier)
 

@@ -2,10 +2,10 @@
 use Rattle.std.specs.{Io.KnownBytes.Appends, Prelude.{◌≡◌, ◌⊎◌, ℕ, ◌-◌, ◌^◌, List, [], ◌∷◌, ◌++◌, length, Option}}
 use Rattle.pcm_io.specs.{Faults.Rose, Giving.AppendsPrefix, Taking.Takes}
 use Rattle.atomic_sectors.specs.{Lines.Write, Stops.RoseBy, declared.layout.Layout.Layout}
-use Rattle.disk_rules.specs.{Standing.disk_size, declared.Answer.Answer, declared.Request.Request}
+use Rattle.disk_rules.specs.{Standing.disk_size, declared.DiskAnswer.DiskAnswer, declared.DiskRequest.DiskRequest}
 use Rattle.disk_bytes.specs.Serving.{IsServed}
 use Rattle.disk_server.specs.{Endings.NoneFollows, Messages.{AreMessages, IsMessage, Message, answered, answered_to, asked, phase_behind, phase_of, sent, sent_by, stops_of_all}}
-use Rattle.disk_server.specs.{declared.answering.OnCut.OnCut, declared.phase.Ended.Ended, declared.phase.Phase.Phase}
+use Rattle.disk_server.specs.{declared.answering.OnCut.OnCut, declared.phase.Ended.Ended, declared.phase.SessionPhase.SessionPhase}
 use Rattle.disk_server.specs.declared.phase.Ended.TheVariants as by
 
 -- what is seen, at some moment, of a source, a sink and the lines of a disk
@@ -49,7 +49,7 @@ module _ (n : ℕ) (layout : Layout) where
   -- the answers to these messages are those of the disk: behind all that it was asked before, some writes were made by which it is so. No more of
   -- them were stopped, but for want of memory, than calls of the lines were
   pub record Serves (was now : Seen) (messages : List Message) : Type 0 where
-    pub answers : (earlier : List (Request × Answer)) → IsServed n layout earlier was.made → IsServed n layout (asked messages earlier) now.made
+    pub answers : (earlier : List (DiskRequest × DiskAnswer)) → IsServed n layout earlier was.made → IsServed n layout (asked messages earlier) now.made
     pub stops : RoseBy (stops_of_all messages) was.stops now.stops
 
   -- the bytes that came are exactly these messages, in order, and what stands behind the last that was whole; the bytes that went are
@@ -64,15 +64,15 @@ module _ (n : ℕ) (layout : Layout) where
     pub serves : Serves was now messages
 
   -- one message more, where the client and the server stand so: it came whole
-  pub record Comes (mode : OnCut) (phase : Phase) (was now : Seen) : Type 0 where
+  pub record Comes (mode : OnCut) (phase : SessionPhase) (was now : Seen) : Type 0 where
     pub message : Message
     pub is : IsMessage mode phase message
     pub takes : Takes was.left now.left was.taken now.taken (sent_by message)
     pub serves : Serves was now (message ∷ [])
 
-  module _ (mode : OnCut) (phase : Phase) (was now : Seen) where
+  module _ (mode : OnCut) (phase : SessionPhase) (was now : Seen) where
     -- and it was answered, so that the two stand so
-    abbrev pub Answers : Phase → Type 0
+    abbrev pub Answers : SessionPhase → Type 0
     Answers next = (comes : Comes mode phase was now) × (next ≡ phase_behind phase comes.message)
         × Appends was.written now.written (answered_to (disk_size n layout) phase comes.message)
 

@@ -8,7 +8,7 @@ ghost use Rattle.disk_server.specs.declared.answering.OnCut.TheVariants.{Ride};
 
 use atomic_sectors::{Lines, Stopped};
 use disk_bytes::{Disk, serve};
-use disk_rules::{Answer, Refusal, Request};
+use disk_rules::{DiskAnswer, DiskRefusal, DiskRequest};
 use nbd_frames::Failure;
 use std::alloc::Global;
 
@@ -25,11 +25,11 @@ pub enum OnCut {
 const MOST_CUTS: u32 = 4_294_967_295;
 
 // Whether a power cut stopped it.
-fn is_cut(answer: &Answer) -> bool
+fn is_cut(answer: &DiskAnswer) -> bool
     ensures { result ≡ is_cut answer.now }
 {
     match answer {
-        Answer::Stopped(Stopped::Cut) => true,
+        DiskAnswer::Stopped(Stopped::Cut) => true,
         _ => false,
     }
 }
@@ -39,8 +39,8 @@ fn ride<const B: usize, L: Lines<B>>(
     alloc: Global,
     disk: &mut Disk<B>,
     lines: &mut L,
-    request: &Request,
-) -> Answer
+    request: &DiskRequest,
+) -> DiskAnswer
     requires fits { Fits B disk.old.layout (L.count (L.kind lines.old)) }
     requires ready { IsReady B (L.made lines.old) disk.old }
     ensures asked { IsAsked B disk.old.layout Ride request.now (L.made lines.old)
@@ -65,8 +65,8 @@ pub(crate) fn ask<const B: usize, L: Lines<B>>(
     disk: &mut Disk<B>,
     lines: &mut L,
     on_cut: OnCut,
-    request: &Request,
-) -> Answer
+    request: &DiskRequest,
+) -> DiskAnswer
     requires fits { Fits B disk.old.layout (L.count (L.kind lines.old)) }
     requires ready { IsReady B (L.made lines.old) disk.old }
     ensures asked { IsAsked B disk.old.layout on_cut request.now (L.made lines.old)
@@ -82,25 +82,27 @@ pub(crate) fn ask<const B: usize, L: Lines<B>>(
 }
 
 // Why the request failed, as the client is told, if it did.
-pub(crate) fn failure_of(request: &Request, answer: &Answer) -> Option<Failure>
+pub(crate) fn failure_of(request: &DiskRequest, answer: &DiskAnswer) -> Option<Failure>
     ensures { result ≡ failure_of request.now answer.now }
 {
     match (request, answer) {
-        (_, Answer::Done | Answer::Bytes(_)) => None,
-        (Request::Write { .. }, Answer::Refused(Refusal::Outside)) => Some(Failure::NoSpace),
-        (_, Answer::Refused(_)) => Some(Failure::Invalid),
-        (_, Answer::Stopped(Stopped::Cut)) => Some(Failure::Shutdown),
-        (_, Answer::Stopped(Stopped::Worn | Stopped::Ended)) => Some(Failure::Io),
-        (_, Answer::Stopped(Stopped::Memory)) => Some(Failure::NoMemory),
+        (_, DiskAnswer::Done | DiskAnswer::Bytes(_)) => None,
+        (DiskRequest::Write { .. }, DiskAnswer::Refused(DiskRefusal::Outside)) => Some(
+            Failure::NoSpace,
+        ),
+        (_, DiskAnswer::Refused(_)) => Some(Failure::Invalid),
+        (_, DiskAnswer::Stopped(Stopped::Cut)) => Some(Failure::Shutdown),
+        (_, DiskAnswer::Stopped(Stopped::Worn | Stopped::Ended)) => Some(Failure::Io),
+        (_, DiskAnswer::Stopped(Stopped::Memory)) => Some(Failure::NoMemory),
     }
 }
 
 // The bytes that an answer has.
-pub(crate) fn bytes_of(answer: &Answer) -> &[u8]
+pub(crate) fn bytes_of(answer: &DiskAnswer) -> &[u8]
     ensures { result.now ≡ bytes_of answer.now }
 {
     match answer {
-        Answer::Bytes(bytes) => bytes.as_slice(),
+        DiskAnswer::Bytes(bytes) => bytes.as_slice(),
         _ => &[],
     }
 }

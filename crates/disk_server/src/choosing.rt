@@ -10,9 +10,9 @@ ghost use Rattle.disk_server.specs.Messages.{behind_option};
 ghost use Rattle.nbd_frames.specs.declared.handshake.Reply.TheVariants.{Ack};
 ghost use Rattle.disk_server.specs.Reading.{StopsAmid};
 ghost use Rattle.disk_server.specs.Endings.{NoneFollows};
-ghost use Rattle.disk_server.specs.declared.phase.Phase.TheVariants.{Opening, Choosing};
+ghost use Rattle.disk_server.specs.declared.phase.SessionPhase.TheVariants.{Opening, Choosing};
 
-use crate::phase::{Ended, Phase};
+use crate::phase::{Ended, SessionPhase};
 use crate::reading::{fill, fill_on, skip};
 use crate::writing::write_both;
 use nbd_frames::{
@@ -43,7 +43,7 @@ pub(crate) fn receive_flags<S: Source>(source: &mut S) -> Result<u32, Ended>
 
 // An option that came, and whether its data are those of an INFO or a GO that is answered.
 #[derive(Clone, Copy)]
-pub(crate) struct Chosen {
+pub(crate) struct ChosenOption {
     pub(crate) header: OptionHeader,
     pub(crate) told: bool,
 }
@@ -70,7 +70,7 @@ fn receive_data<S: Source>(source: &mut S, size: u32) -> Result<bool, Ended>
 }
 
 // Reads an option.
-pub(crate) fn receive_option<S: Source>(source: &mut S, zeros: bool) -> Result<Chosen, Ended>
+pub(crate) fn receive_option<S: Source>(source: &mut S, zeros: bool) -> Result<ChosenOption, Ended>
     ensures came { IfOk result (λ chosen. (bytes : List ℕ) × IsOption chosen.header
         × (length bytes ≡ chosen.header.size) × (chosen.told ≡ is_told bytes)
         × Takes (S.left source.old) (S.left source.new) (S.taken source.old) (S.taken source.new)
@@ -87,7 +87,7 @@ pub(crate) fn receive_option<S: Source>(source: &mut S, zeros: bool) -> Result<C
         return Err(Ended::Strange);
     };
     let told = receive_data(source, header.size)?;
-    Ok(Chosen { header, told })
+    Ok(ChosenOption { header, told })
 }
 
 // Writes one reply to an option.
@@ -139,7 +139,7 @@ fn say_size<K: Sink>(sink: &mut K, size: u64, zeros: bool) -> Result<(), WriteFa
 }
 
 // Tells of the disk, where the data ask for it.
-fn say_info<K: Sink>(sink: &mut K, size: u64, chosen: &Chosen) -> Result<(), WriteFault>
+fn say_info<K: Sink>(sink: &mut K, size: u64, chosen: &ChosenOption) -> Result<(), WriteFault>
     ensures ok { OnOk result ((bytes : List ℕ) → length bytes ≡ chosen.now.header.size
         → chosen.now.told ≡ is_told bytes → Appends (K.written sink.old) (K.written sink.new)
         (info_replies size chosen.now.header.choice bytes)) }
@@ -164,7 +164,7 @@ pub(crate) fn answer_option<K: Sink>(
     sink: &mut K,
     size: u64,
     zeros: bool,
-    chosen: &Chosen,
+    chosen: &ChosenOption,
 ) -> Result<(), WriteFault>
     ensures ok { OnOk result ((bytes : List ℕ) → length bytes ≡ chosen.now.header.size
         → chosen.now.told ≡ is_told bytes → Appends (K.written sink.old) (K.written sink.new)
@@ -187,16 +187,16 @@ pub(crate) fn answer_option<K: Sink>(
     }
 }
 
-impl Chosen {
+impl ChosenOption {
     // Where the client and the server stand behind it.
-    pub(crate) fn next(&self, phase: Phase) -> Phase
+    pub(crate) fn next(&self, phase: SessionPhase) -> SessionPhase
         ensures { (bytes : List ℕ) → self.now.told ≡ is_told bytes
             → result ≡ behind_option phase self.now.header.choice bytes }
     {
         match self.header.choice {
-            Choice::ExportName => Phase::Serving,
-            Choice::Abort => Phase::Over,
-            Choice::Go if self.told => Phase::Serving,
+            Choice::ExportName => SessionPhase::Serving,
+            Choice::Abort => SessionPhase::Over,
+            Choice::Go if self.told => SessionPhase::Serving,
             _ => phase,
         }
     }

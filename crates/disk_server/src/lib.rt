@@ -11,5 +11,5 @@ mod session;
 mod writing;
 
 pub use answering::OnCut;
-pub use phase::{Ended, Phase};
+pub use phase::{Ended, SessionPhase};
 pub use session::serve;

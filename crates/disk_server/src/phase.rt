@@ -2,7 +2,7 @@
 
 /// Where a client and the server of a disk stand.
 #[derive(Clone, Copy, Debug, PartialEq, Eq)]
-pub enum Phase {
+pub enum SessionPhase {
     /// The server said that it speaks NBD, and the client has not said so yet.
     Opening,
     /// The client asks for options, and whether it wants zeros behind the size of the disk.

@@ -10,7 +10,7 @@ ghost use Rattle.disk_server.specs.Exchanges.{Brings, failure_of, bytes_of, is_k
 ghost use Rattle.disk_server.specs.Reading.{StopsAmid};
 ghost use Rattle.disk_server.specs.Endings.{NoneFollows};
 ghost use Rattle.disk_server.specs.Answering.{IsAnswered, WritesOr};
-ghost use Rattle.disk_server.specs.declared.phase.Phase.TheVariants.{Serving};
+ghost use Rattle.disk_server.specs.declared.phase.SessionPhase.TheVariants.{Serving};
 
 use crate::answering::{OnCut, ask, bytes_of, failure_of};
 use crate::phase::Ended;
@@ -18,7 +18,7 @@ use crate::reading::{fill, read_on, skip};
 use crate::writing::write_both;
 use atomic_sectors::Lines;
 use disk_bytes::Disk;
-use disk_rules::{Answer, Request};
+use disk_rules::{DiskAnswer, DiskRequest};
 use nbd_frames::{Command, Failure, RequestHeader, read_request, reply};
 use pcm_io::{Sink, Source, WriteFault, write_all};
 use std::alloc::Global;
@@ -48,7 +48,7 @@ fn is_request(header: &RequestHeader) -> bool
 #[derive(Drop)]
 pub(crate) struct Received {
     pub(crate) header: RequestHeader,
-    pub(crate) request: Result<Request, Failure>,
+    pub(crate) request: Result<DiskRequest, Failure>,
 }
 
 // Reads the bytes of a write.
@@ -56,7 +56,7 @@ fn receive_write<S: Source>(
     alloc: Global,
     source: &mut S,
     header: &RequestHeader,
-) -> Result<Result<Request, Failure>, Ended>
+) -> Result<Result<DiskRequest, Failure>, Ended>
     requires write { header.now.command ≡ Command.Write }
     ensures came { IfOk result (λ request. (bytes : List ℕ) × (length bytes ≡ header.now.size)
         × Takes (S.left source.old) (S.left source.new) (S.taken source.old) (S.taken source.new)
@@ -72,7 +72,7 @@ fn receive_write<S: Source>(
     }
     let at = header.at;
     match read_on(alloc, source, header.size)? {
-        Some(bytes) => Ok(Ok(Request::Write { at, bytes })),
+        Some(bytes) => Ok(Ok(DiskRequest::Write { at, bytes })),
         None => Ok(Err(Failure::NoMemory)),
     }
 }
@@ -82,7 +82,7 @@ fn receive_rest<S: Source>(
     alloc: Global,
     source: &mut S,
     header: &RequestHeader,
-) -> Result<Result<Request, Failure>, Ended>
+) -> Result<Result<DiskRequest, Failure>, Ended>
     ensures came { IfOk result (λ request. (bytes : List ℕ)
         × (length bytes ≡ payload_of header.now.command header.now.size)
         × Takes (S.left source.old) (S.left source.new) (S.taken source.old) (S.taken source.new)
@@ -95,11 +95,11 @@ fn receive_rest<S: Source>(
 {
     match header.command {
         Command::Write => receive_write(alloc, source, header),
-        Command::Read if is_request(header) => Ok(Ok(Request::Read {
+        Command::Read if is_request(header) => Ok(Ok(DiskRequest::Read {
             at: header.at,
             size: header.size,
         })),
-        Command::Flush if is_request(header) => Ok(Ok(Request::Flush)),
+        Command::Flush if is_request(header) => Ok(Ok(DiskRequest::Flush)),
         _ => Ok(Err(Failure::Invalid)),
     }
 }
@@ -133,8 +133,8 @@ pub(crate) fn receive_request<S: Source>(alloc: Global, source: &mut S) -> Resul
 fn write_answer<K: Sink>(
     sink: &mut K,
     cookie: u64,
-    request: &Request,
-    answer: &Answer,
+    request: &DiskRequest,
+    answer: &DiskAnswer,
 ) -> Result<(), WriteFault>
     ensures written { WritesOr result (K.written sink.old) (K.written sink.new)
         (reply_bytes (failure_of request.now answer.now) cookie ++ bytes_of answer.now) }

@@ -6,7 +6,7 @@ ghost use Rattle.disk_server.specs.Sessions.{Answers, IsSession, StopsBy, seen};
 
 use crate::answering::OnCut;
 use crate::choosing::{answer_option, receive_flags, receive_option};
-use crate::phase::{Ended, Phase};
+use crate::phase::{Ended, SessionPhase};
 use crate::requests::{answer_request, receive_request};
 use atomic_sectors::Lines;
 use disk_bytes::Disk;
@@ -20,10 +20,10 @@ fn step<const B: usize, L: Lines<B>, S: Source, K: Sink>(
     disk: &mut Disk<B>,
     lines: &mut L,
     on_cut: OnCut,
-    phase: Phase,
+    phase: SessionPhase,
     source: &mut S,
     sink: &mut K,
-) -> Result<Phase, Ended>
+) -> Result<SessionPhase, Ended>
     requires fits { Fits B disk.old.layout (L.count (L.kind lines.old)) }
     requires ready { IsReady B (L.made lines.old) disk.old }
     ensures answers { IfOk result (λ next. Answers B disk.old.layout on_cut phase
@@ -43,11 +43,11 @@ fn step<const B: usize, L: Lines<B>, S: Source, K: Sink>(
     ensures kind { L.kind lines.new ≡ L.kind lines.old }
 {
     match phase {
-        Phase::Opening => {
+        SessionPhase::Opening => {
             let flags = receive_flags(source)?;
-            Ok(Phase::Choosing(flags < 2))
+            Ok(SessionPhase::Choosing(flags < 2))
         }
-        Phase::Choosing(zeros) => {
+        SessionPhase::Choosing(zeros) => {
             let chosen = receive_option(source, zeros)?;
             let size = disk.size(lines);
             match answer_option(sink, size, zeros, &chosen) {
@@ -55,14 +55,14 @@ fn step<const B: usize, L: Lines<B>, S: Source, K: Sink>(
                 Err(_) => Err(Ended::Unwritten),
             }
         }
-        Phase::Serving => {
+        SessionPhase::Serving => {
             let received = receive_request(alloc, source)?;
             match answer_request(alloc, disk, lines, on_cut, sink, &received) {
                 Ok(()) => Ok(phase),
                 Err(_) => Err(Ended::Unwritten),
             }
         }
-        Phase::Over => Err(Ended::Left),
+        SessionPhase::Over => Err(Ended::Left),
     }
 }
 
@@ -91,7 +91,7 @@ pub fn serve<const B: usize, L: Lines<B>, S: Source, K: Sink>(
     let Ok(()) = write_all(sink, &greet()) else {
         return Ended::Unwritten;
     };
-    let mut phase = Phase::Opening;
+    let mut phase = SessionPhase::Opening;
     for _message in 0..u64::MAX {
         match step(alloc, disk, lines, on_cut, phase, source, sink) {
             Ok(next) => phase = next,

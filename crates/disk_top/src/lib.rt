@@ -7,6 +7,6 @@ mod outcome;
 mod program;
 mod serving;
 
-pub use outcome::{Fault, Outcome};
+pub use outcome::{DiskFault, DiskOutcome};
 pub use program::{Remains, run_disk};
 pub use serving::{NarrowLines, WideLines};

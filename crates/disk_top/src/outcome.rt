@@ -8,7 +8,7 @@ use pcm_io::{Sink, WriteFault, write_all};
 
 /// How a call of the program ends.
 #[derive(Clone, Copy, PartialEq, Eq)]
-pub enum Outcome {
+pub enum DiskOutcome {
     /// A client was served, up to this end.
     Served(Ended),
     /// The words ask for nothing.
@@ -19,7 +19,7 @@ pub enum Outcome {
 
 /// Why a call of the program ends without its work done.
 #[derive(Clone, Copy, PartialEq, Eq)]
-pub enum Fault {
+pub enum DiskFault {
     /// The words ask for nothing.
     Usage,
     /// The client's bytes ended amid a message.
@@ -36,18 +36,18 @@ pub enum Fault {
     NoMemory,
 }
 
-impl Fault {
+impl DiskFault {
     /// The status of the program for it.
     pub fn status(self) -> u8
         ensures { result ≡ status_of self }
     {
         match self {
-            Fault::Usage => 2,
-            Fault::CutOff | Fault::NoMessage => 3,
-            Fault::Read => 4,
-            Fault::Write => 5,
-            Fault::TooLong => 6,
-            Fault::NoMemory => 7,
+            DiskFault::Usage => 2,
+            DiskFault::CutOff | DiskFault::NoMessage => 3,
+            DiskFault::Read => 4,
+            DiskFault::Write => 5,
+            DiskFault::TooLong => 6,
+            DiskFault::NoMemory => 7,
         }
     }
 
@@ -56,46 +56,46 @@ impl Fault {
         ensures { result.now ≡ fault_line self }
     {
         match self {
-            Fault::Usage => b"usage: pcm disk [options]\n",
-            Fault::CutOff => b"message cut off\n",
-            Fault::NoMessage => b"no message\n",
-            Fault::Read => b"read fault\n",
-            Fault::Write => b"write fault\n",
-            Fault::TooLong => b"too many messages\n",
-            Fault::NoMemory => b"out of memory\n",
+            DiskFault::Usage => b"usage: pcm disk [options]\n",
+            DiskFault::CutOff => b"message cut off\n",
+            DiskFault::NoMessage => b"no message\n",
+            DiskFault::Read => b"read fault\n",
+            DiskFault::Write => b"write fault\n",
+            DiskFault::TooLong => b"too many messages\n",
+            DiskFault::NoMemory => b"out of memory\n",
         }
     }
 }
 
 // Why a client's session isn't done, where it isn't.
-fn fault_of(ended: Ended) -> Option<Fault>
+fn fault_of(ended: Ended) -> Option<DiskFault>
     ensures { result ≡ fault_of ended }
 {
     match ended {
         Ended::Left | Ended::Closed => None,
-        Ended::Broken => Some(Fault::CutOff),
-        Ended::Strange => Some(Fault::NoMessage),
-        Ended::Unread => Some(Fault::Read),
-        Ended::Unwritten => Some(Fault::Write),
-        Ended::Endless => Some(Fault::TooLong),
+        Ended::Broken => Some(DiskFault::CutOff),
+        Ended::Strange => Some(DiskFault::NoMessage),
+        Ended::Unread => Some(DiskFault::Read),
+        Ended::Unwritten => Some(DiskFault::Write),
+        Ended::Endless => Some(DiskFault::TooLong),
     }
 }
 
-impl Outcome {
+impl DiskOutcome {
     // Why its work isn't done, where it isn't.
-    fn fault(self) -> Option<Fault>
+    fn fault(self) -> Option<DiskFault>
         ensures { result ≡ fault_in self }
     {
         match self {
-            Outcome::Served(ended) => fault_of(ended),
-            Outcome::Usage => Some(Fault::Usage),
-            Outcome::NoMemory => Some(Fault::NoMemory),
+            DiskOutcome::Served(ended) => fault_of(ended),
+            DiskOutcome::Usage => Some(DiskFault::Usage),
+            DiskOutcome::NoMemory => Some(DiskFault::NoMemory),
         }
     }
 }
 
 // Writes the line of a fault.
-fn tell<F: Sink>(fault: Fault, err: &mut F) -> Result<(), WriteFault>
+fn tell<F: Sink>(fault: DiskFault, err: &mut F) -> Result<(), WriteFault>
     ensures { Writes (fault_line fault) (sink_change F.written F.faults err.old err.new) result }
 {
     write_all(err, fault.line())
@@ -103,18 +103,18 @@ fn tell<F: Sink>(fault: Fault, err: &mut F) -> Result<(), WriteFault>
 
 // The status of a fault, after its line was written; that of a fault of writing where the line
 // couldn't be.
-fn give_up<F: Sink>(fault: Fault, err: &mut F) -> u8
+fn give_up<F: Sink>(fault: DiskFault, err: &mut F) -> u8
     ensures { IsToldOf fault (sink_change F.written F.faults err.old err.new) result }
 {
     match tell(fault, err) {
         Ok(()) => fault.status(),
-        Err(_) => Fault::Write.status(),
+        Err(_) => DiskFault::Write.status(),
     }
 }
 
 /// The status of how a call ended, after the line of its fault was written, if it has one; that of a
 /// fault of writing where the line couldn't be.
-pub(crate) fn say<F: Sink>(outcome: Outcome, err: &mut F) -> u8
+pub(crate) fn say<F: Sink>(outcome: DiskOutcome, err: &mut F) -> u8
     ensures { IsStatusOf (fault_in outcome) (lent_sink F.written F.faults err.old err.new) result }
 {
     match outcome.fault() {

@@ -7,7 +7,7 @@ ghost use Rattle.disk_words.specs.Jobs.{IsDiskPlan, asked_by, disk_job_of};
 ghost use Rattle.disk_top.specs.Promises.{Becomes, KeepsPromises};
 ghost use Rattle.disk_top.specs.Serving.{HasServed, shown};
 
-use crate::outcome::{Outcome, say};
+use crate::outcome::{DiskOutcome, say};
 use crate::serving::{NarrowLines, WideLines, narrow, serve, wide};
 use command_line::{LineSize, Refusal};
 use disk_server::Ended;
@@ -72,7 +72,7 @@ fn serve_on<S: Source, K: Sink>(
     job: DiskJob,
     source: &mut S,
     sink: &mut K,
-) -> (Outcome, Remains)
+) -> (DiskOutcome, Remains)
     requires plan { IsDiskPlan job.plan }
     ensures becomes { Becomes (record {
       asked = Ok (asked_by job);
@@ -83,12 +83,12 @@ fn serve_on<S: Source, K: Sink>(
 {
     match job.plan.line {
         LineSize::Bytes64 => match serve_narrow(alloc, job, source, sink) {
-            Ok((ended, lines)) => (Outcome::Served(ended), Remains::Narrow(lines)),
-            Err(_) => (Outcome::NoMemory, Remains::Nothing),
+            Ok((ended, lines)) => (DiskOutcome::Served(ended), Remains::Narrow(lines)),
+            Err(_) => (DiskOutcome::NoMemory, Remains::Nothing),
         },
         LineSize::Bytes128 => match serve_wide(alloc, job, source, sink) {
-            Ok((ended, lines)) => (Outcome::Served(ended), Remains::Wide(lines)),
-            Err(_) => (Outcome::NoMemory, Remains::Nothing),
+            Ok((ended, lines)) => (DiskOutcome::Served(ended), Remains::Wide(lines)),
+            Err(_) => (DiskOutcome::NoMemory, Remains::Nothing),
         },
     }
 }
@@ -99,7 +99,7 @@ fn work<S: Source, K: Sink>(
     words: &[String],
     source: &mut S,
     sink: &mut K,
-) -> (Outcome, Remains)
+) -> (DiskOutcome, Remains)
     ensures becomes { Becomes (record {
       asked = disk_job_of (map string_bytes words.now);
       was = shown S.left S.taken S.faults K.written K.faults source.old sink.old;
@@ -109,8 +109,8 @@ fn work<S: Source, K: Sink>(
 {
     match read_disk_job(alloc, words) {
         Ok(job) => serve_on(alloc, job, source, sink),
-        Err(Refusal::Usage) => (Outcome::Usage, Remains::Nothing),
-        Err(Refusal::NoMemory) => (Outcome::NoMemory, Remains::Nothing),
+        Err(Refusal::Usage) => (DiskOutcome::Usage, Remains::Nothing),
+        Err(Refusal::NoMemory) => (DiskOutcome::NoMemory, Remains::Nothing),
     }
 }
 

@@ -1,5 +1,4 @@
 -- Lemmas of the program that explains.
 mod Deciding
 mod Rows
-mod Sizes
 mod Telling

@@ -1,10 +1,11 @@
 -- The image of a module within the limits is short.
-use Rattle.std.proofs.Common.{◌≡◌, ℕ, ◌+◌, ◌*◌, ◌/◌, ◌≤◌, ◌<◌, ◌==◌, Bool, true, false, cond, List, [], ◌∷◌, ◌++◌, length, refl, ap, arith, length-append}
-use Rattle.std.{specs.List.{flat_map, AllByRecursion}, proofs.Math.Nat.{mul_assoc, mul-add}, proofs.lemmas.List.Concat.flat_map-cons, proofs.lemmas.Nat.mul-le}
+use Rattle.std.proofs.Common.{◌≡◌, ℕ, ◌+◌, ◌*◌, ◌/◌, ◌≤◌, ◌<◌, List, [], ◌∷◌, ◌++◌, length, refl, ap, arith, length-append}
+use Rattle.std.{specs.List.{flat_map, AllByRecursion}, proofs.lemmas.List.Concat.flat_map-cons, proofs.lemmas.Nat.mul-le}
 use Rattle.ecp_line.proofs.Bytes.{length-bytes_from}
-use Rattle.pcm_image.specs.Saved.{Head, IsHead, IsSavedBank, IsSavedEntry, IsSavedRegion, IsSavedRow, SavedBank, array_lines_in, controls_in, slots_in}
+use Rattle.pcm_image.specs.Saved.{Head, IsHead, IsSavedBank, IsSavedEntry, IsSavedRegion, IsSavedRow, SavedBank, slots_in}
 use Rattle.pcm_image.specs.{Spelling.{bank_bytes, cells_bytes, entry_bytes, head_bytes, image_bytes, packed, region_bytes, u16, u32, u8}, declared.EntryImage.EntryImage}
-use Rattle.pcm_image.{specs.declared.RegionImage.RegionImage, proofs.Heads.{HeadFits, head-fits}, proofs.Whole.all_to}
+use Rattle.pcm_image.{specs.declared.RegionImage.RegionImage, proofs.Heads.{HeadFits, array_lines-small, head-fits}, proofs.Fronts.all_to}
+use Rattle.module_shape.specs.Limits.{small_limits}
 use Rattle.cell_rows.specs.declared.row.Cells.{Cells}
 use Rattle.image_laws.specs.Sizes.{ShortImageLaw}
 
@@ -42,7 +43,7 @@ module _ {n : ℕ} (small : n ≤ 128) (h : Head) where
   slot-few : (slot : ℕ) → slot < slots_in h → length (u32 slot) ≤ 4
   slot-few slot is = omega arith
 
-  bank-few : IsHead h → HeadFits h → (b : SavedBank n) → IsSavedBank h b → length (bank_bytes b) ≤ 42085
+  bank-few : IsHead h → HeadFits small_limits h → (b : SavedBank n) → IsSavedBank h b → length (bank_bytes b) ≤ 42085
   bank-few head fit b is =
       let used : length b.replaced ≤ 1024 = omega (arith, is.used, head.spares) in
       let regions : length b.regions ≤ 16 = omega (arith, is.one_each, fit.regions) in
@@ -65,36 +66,15 @@ row-few {n} {m} small checks row is =
     let parts : length (cells_bytes row) ≡ length row.bits + length row.meta = length-append row.bits row.meta in
     omega (arith, small, checks, parts, is.bits, is.meta)
 
--- a module has few array lines
-controls-few : (h : Head) → controls_in h ≤ h.regions + h.spares + 1
-controls-few h = by (h.home == 0)
-  where
-    by : (b : Bool) → cond b 0 (h.regions + h.spares + 1) ≤ h.regions + h.spares + 1
-    by true = omega arith
-    by false = omega arith
-
-lines-few : (h : Head) → IsHead h → HeadFits h → h.banks * array_lines_in h ≤ 98832
-lines-few h head fit =
-    let others = 2 * h.regions + 2 * h.spares + 1 in
-    let controls : controls_in h ≤ h.regions + h.spares + 1 = controls-few h in
-    let slots : slots_in h ≡ h.regions * h.lines + h.regions = grind arith in
-    let lines : array_lines_in h ≤ h.regions * h.lines + others = omega (arith, controls, slots) in
-    let most : h.banks * array_lines_in h ≤ h.banks * (h.regions * h.lines + others) = mul-le h.banks (array_lines_in h) h.banks (h.regions * h.lines + others) (omega arith) lines in
-    let split : h.banks * (h.regions * h.lines + others) ≡ h.banks * (h.regions * h.lines) + h.banks * others = mul-add h.banks (h.regions * h.lines) others in
-    let total : h.banks * (h.regions * h.lines) ≤ 65536 = omega (arith, fit.total, mul_assoc h.banks h.regions h.lines) in
-    let few : others ≤ 2081 = omega (arith, fit.regions, head.spares) in
-    let rest : h.banks * others ≤ 16 * 2081 = mul-le h.banks others 16 2081 fit.banks few in
-    omega (arith, most, split, total, rest)
-
 pub short_image_law : ShortImageLaw
 unfolding image_bytes
 short_image_law n m s small checks is =
     let h = s.head in
-    let fit = head-fits h is.head in
+    let fit = head-fits small_limits h is.head in
     let parts = flat_map bank_bytes s.parts in
     let cells = flat_map cells_bytes s.cells in
     let banks : length s.parts ≤ 16 = omega (arith, is.one_each, fit.banks) in
-    let lines : length s.cells ≤ 98832 = omega (arith, is.all_lines, lines-few h is.head fit) in
+    let lines : length s.cells ≤ 98832 = omega (arith, is.all_lines, array_lines-small h is.head) in
     let p : length parts ≤ 16 * 42085 = few-of (IsSavedBank h) bank_bytes 42085 16 (bank-few small h is.head fit) s.parts (all_to (IsSavedBank h) s.parts is.parts) banks in
     let q : length cells ≤ 98832 * 144 = few-of (IsSavedRow n m) cells_bytes 144 98832 (row-few small checks) s.cells (all_to (IsSavedRow n m) s.cells is.rows) lines in
     let head : length (head_bytes n h) ≡ 24 = refl in

@@ -1,5 +1,5 @@
 // What a bank keeps, printed field by field.
-ghost use Rattle.std.specs.Prelude.{◌≡◌, ◌≤◌, if◌then◌else◌, map};
+ghost use Rattle.std.specs.Prelude.{◌≡◌, ◌^◌, ◌<◌, ◌≤◌, if◌then◌else◌, map};
 ghost use Rattle.std.specs.List.{flat_map};
 ghost use Rattle.power_recovery.specs.Kept.{IsKept};
 ghost use Rattle.module_shape.specs.Limits.{small_limits};
@@ -19,12 +19,13 @@ use text_printer::{Printer, ROW_ROOM};
 // The registers of a region as an image has them.
 fn region_image(region: &Region) -> RegionImage
     requires { region.now.rotation.lines ≤ small_limits.lines }
-    ensures { result ≡ saved_region region.now }
+    ensures is { result ≡ saved_region region.now }
+    ensures lines { (result.start < 2 ^ 16) × (result.gap < 2 ^ 16) }
 {
     let registers = region.registers();
     RegionImage {
-        start: registers.start() as u16,
-        gap: registers.gap() as u16,
+        start: registers.start(),
+        gap: registers.gap(),
         counter: region.counter() as u16,
     }
 }

@@ -1,5 +1,5 @@
 // The pieces of an image, each printed behind what was printed before.
-ghost use Rattle.std.specs.Prelude.{◌≡◌, ◌≤◌, ◌++◌};
+ghost use Rattle.std.specs.Prelude.{◌≡◌, ◌^◌, ◌<◌, ◌≤◌, ◌++◌};
 ghost use Rattle.pcm_io.specs.Reserved.{appended, room_in};
 ghost use Rattle.module_shape.specs.Limits.{IsSmall};
 ghost use Rattle.pcm_image.specs.Spelling.{u8, u16, u32, head_bytes, region_bytes, entry_bytes, cells_bytes};
@@ -35,7 +35,7 @@ fn push_head(size: u8, shape: &Shape, seed: u64, text: &mut Text)
     let head = HeadImage {
         banks: raw.banks as u8,
         regions: raw.regions as u8,
-        lines: raw.lines as u16,
+        lines: raw.lines,
         spares: raw.spares as u16,
         seed,
         home: number_of_home(raw.home),
@@ -74,7 +74,8 @@ pub fn print_slot<K: Sink>(slot: u32, printer: &mut Printer<K>)
 
 /// Writes the registers of a region.
 pub fn print_region<K: Sink>(region: &RegionImage, printer: &mut Printer<K>)
-    requires { ROW_ROOM ≤ printer.old.text.now.limit }
+    requires limit { ROW_ROOM ≤ printer.old.text.now.limit }
+    requires lines { (region.now.start < 2 ^ 16) × (region.now.gap < 2 ^ 16) }
     ensures { Prints K.written K.faults printer.old printer.new (region_bytes region.now) }
 {
     printer.make_room();

@@ -1,24 +1,22 @@
 -- The bytes of the image of a large module: the only ones that it has. Of the array lines it has only those of which a cell is 1.
-use Rattle.std.specs.{List.{flat_map, list_all}, Prelude.{ℕ, ◌+◌, ◌==◌, Bool, if◌then◌else◌, List, [], ◌∷◌, ◌++◌, length, codes}}
+use Rattle.std.specs.{List.{flat_map, list_all}, Prelude.{ℕ, ◌+◌, ◌==◌, Bool, if◌then◌else◌, List, [], ◌∷◌, ◌++◌}}
 use Rattle.cell_rows.specs.declared.row.Cells.{Cells}
-use Rattle.pcm_image.specs.{Saved.{Saved, SavedBank, Head}, Spelling.{u8, u16, u32, u64, entry_bytes, cells_bytes}, declared.RegionImage.RegionImage}
+use Rattle.pcm_image.specs.{Formats.magic_of, Saved.{Saved, SavedBank, Head}, Spelling.{u32, head_bytes_in, region_bytes_in, bank_bytes_in, cells_bytes}}
+use Rattle.pcm_image.specs.{declared.RegionImage.RegionImage, declared.Format.TheVariants.Large}
 
 abbrev pub magic : List ℕ
-magic = codes "PCMIMG02"
+magic = magic_of Large
 
 -- the numbers of a module: 26 bytes
 abbrev pub head_bytes : ℕ → Head → List ℕ
-head_bytes B h =
-    magic ++ (u8 B ++ (u8 h.banks ++ (u8 h.regions ++ (u32 h.lines ++ (u16 h.spares ++ (u64 h.seed ++ u8 h.home))))))
+head_bytes B h = head_bytes_in Large B h
 
 -- the registers of a region: 10 bytes
 abbrev pub region_bytes : RegionImage → List ℕ
-region_bytes r = u32 r.start ++ (u32 r.gap ++ u16 r.counter)
+region_bytes r = region_bytes_in Large r
 
 abbrev pub bank_bytes : {B : ℕ} → SavedBank B → List ℕ
-bank_bytes b =
-    u8 b.mark ++ (u16 (length b.replaced) ++ (flat_map u32 b.replaced
-    ++ (flat_map region_bytes b.regions ++ (u16 (length b.entries) ++ flat_map entry_bytes b.entries))))
+bank_bytes b = bank_bytes_in Large b
 
 -- whether no byte is other than 0
 abbrev pub are_zero : List ℕ → Bool

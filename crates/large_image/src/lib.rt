@@ -14,32 +14,6 @@ pub use writing::{write_head, write_line, write_region};
 /// Stands where the number of a further array line would.
 pub const END_MARK: u32 = 4_294_967_295;
 
-/// The numbers at the beginning of the image of a large module, but for the size of its lines.
-#[derive(Clone, Copy, PartialEq, Eq)]
-pub struct LargeHead {
-    pub banks: u8,
-    pub regions: u8,
-    /// Lines of a region.
-    pub lines: u32,
-    /// Spares of a bank.
-    pub spares: u16,
-    /// The seed of the randomiser.
-    pub seed: u64,
-    /// 1 where the registers have array lines of their own, else 0.
-    pub home: u8,
-}
-
-/// The registers of a region, and its stores since the last move of its gap.
-#[derive(Clone, Copy, PartialEq, Eq)]
-pub struct LargeRegion {
-    /// Below the number of lines.
-    pub start: u32,
-    /// At most the number of lines.
-    pub gap: u32,
-    /// Stores since the gap last moved.
-    pub counter: u16,
-}
-
 /// Whether no byte is other than 0.
 pub fn are_zero(bytes: &[u8]) -> bool
     ensures { result ≡ are_zero bytes.now }

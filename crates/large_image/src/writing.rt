@@ -3,13 +3,13 @@ ghost use Rattle.std.specs.Prelude.{◌≡◌, ◌+◌, ◌≤◌, ◌++◌};
 ghost use Rattle.pcm_io.specs.Reserved.{room_in, appended};
 ghost use Rattle.pcm_image.specs.Spelling.{u8, u16, u32, u64};
 ghost use Rattle.large_image.specs.Spelling.{head_bytes, region_bytes};
-ghost use Rattle.large_image.specs.Views.{head_view, region_view};
+ghost use Rattle.pcm_image.specs.Giving.{head_view};
 
-use crate::{LargeHead, LargeRegion};
+use pcm_image::{HeadImage, RegionImage};
 use pcm_io::Text;
 
 /// The 26 bytes of a head: the size of its lines, and its other numbers.
-pub fn write_head(text: &mut Text, size: u8, head: &LargeHead)
+pub fn write_head(text: &mut Text, size: u8, head: &HeadImage)
     requires { 26 ≤ room_in text.old }
     ensures after { text.new ≡ appended text.old (head_bytes size (head_view head.now)) }
     ensures room { room_in text.new + 26 ≡ room_in text.old }
@@ -20,7 +20,7 @@ pub fn write_head(text: &mut Text, size: u8, head: &LargeHead)
 }
 
 // The other numbers of a module.
-fn write_limits(text: &mut Text, head: &LargeHead)
+fn write_limits(text: &mut Text, head: &HeadImage)
     requires { 15 ≤ room_in text.old }
     ensures after { text.new ≡ appended text.old
         (u32 head.now.lines ++ (u16 head.now.spares ++ (u64 head.now.seed ++ u8 head.now.home))) }
@@ -33,9 +33,9 @@ fn write_limits(text: &mut Text, head: &LargeHead)
 }
 
 /// The 10 bytes of a region's registers.
-pub fn write_region(text: &mut Text, region: &LargeRegion)
+pub fn write_region(text: &mut Text, region: &RegionImage)
     requires { 10 ≤ room_in text.old }
-    ensures after { text.new ≡ appended text.old (region_bytes (region_view region.now)) }
+    ensures after { text.new ≡ appended text.old (region_bytes region.now) }
     ensures room { room_in text.new + 10 ≡ room_in text.old }
 {
     text.push(&region.start.to_le_bytes());

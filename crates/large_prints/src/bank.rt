@@ -3,25 +3,24 @@ ghost use Rattle.std.specs.Prelude.{◌≡◌, ◌≤◌, map};
 ghost use Rattle.std.specs.List.{flat_map};
 ghost use Rattle.power_recovery.specs.Kept.{IsKept};
 ghost use Rattle.large_image.specs.Spelling.{bank_bytes, region_bytes};
-ghost use Rattle.large_image.specs.Views.{region_view};
 ghost use Rattle.right_images.specs.Saving.{saved_bank, saved_region};
 ghost use Rattle.text_printer.specs.Printing.{Prints};
 
 use crate::pieces::print_region;
 use image_text::bank::{mark_of, print_entries, print_slots};
 use image_text::pieces::{print_count, print_mark};
-use large_image::LargeRegion;
+use pcm_image::RegionImage;
 use pcm_io::Sink;
 use power_recovery::kept::Kept;
 use region_regs::Region;
 use text_printer::{Printer, ROW_ROOM};
 
 // The registers of a region as an image has them.
-fn region_image(region: &Region) -> LargeRegion
-    ensures { region_view result ≡ saved_region region.now }
+fn region_image(region: &Region) -> RegionImage
+    ensures { result ≡ saved_region region.now }
 {
     let registers = region.registers();
-    LargeRegion {
+    RegionImage {
         start: registers.start(),
         gap: registers.gap(),
         counter: region.counter() as u16,

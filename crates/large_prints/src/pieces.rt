@@ -3,13 +3,13 @@ ghost use Rattle.std.specs.Prelude.{◌≡◌, ◌≤◌};
 ghost use Rattle.pcm_io.specs.Reserved.{appended, room_in};
 ghost use Rattle.pcm_image.specs.Spelling.{u32};
 ghost use Rattle.large_image.specs.Spelling.{head_bytes, region_bytes};
-ghost use Rattle.large_image.specs.Views.{region_view};
 ghost use Rattle.right_images.specs.Saving.{head_of};
 ghost use Rattle.text_printer.specs.Printing.{Prints};
 
 use image_text::pieces::number_of_home;
-use large_image::{LargeHead, LargeRegion, write_head, write_line, write_region};
+use large_image::{write_head, write_line, write_region};
 use module_shape::Shape;
+use pcm_image::{HeadImage, RegionImage};
 use pcm_io::{Sink, Text};
 use text_printer::{Printer, ROW_ROOM};
 
@@ -19,7 +19,7 @@ fn push_head(size: u8, shape: &Shape, seed: u64, text: &mut Text)
     ensures { text.new ≡ appended text.old (head_bytes size (head_of shape.now seed)) }
 {
     let raw = shape.raw();
-    let head = LargeHead {
+    let head = HeadImage {
         banks: raw.banks as u8,
         regions: raw.regions as u8,
         lines: raw.lines,
@@ -41,10 +41,10 @@ pub(crate) fn print_head<K: Sink>(size: u8, shape: &Shape, seed: u64, printer: &
 }
 
 /// Writes the registers of a region.
-pub(crate) fn print_region<K: Sink>(region: &LargeRegion, printer: &mut Printer<K>)
+pub(crate) fn print_region<K: Sink>(region: &RegionImage, printer: &mut Printer<K>)
     requires { ROW_ROOM ≤ printer.old.text.now.limit }
     ensures { Prints K.written K.faults printer.old printer.new
-        (region_bytes (region_view region.now)) }
+        (region_bytes region.now) }
 {
     printer.make_room();
     write_region(printer.text, region);

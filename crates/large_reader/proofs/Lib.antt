@@ -1,6 +1,4 @@
-pub mod Heads
 mod Steady
-mod Regions
 mod Listing
 mod Lines
 mod Cells

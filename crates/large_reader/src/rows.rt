@@ -57,7 +57,7 @@ fn row_of<'a, const B: usize, const M: usize>(
     ensures gives { Gives (λ x. (x.0, cursor x.1)) result (row_at B M (cursor fields.entry)) }
     ensures full { IfOk result (λ x. IsFalse (are_zero (cells_bytes x.0))) }
 {
-    let (row, rest) = match pcm_image::parts::row_at(fields) {
+    let (row, rest) = match pcm_image::row_at(fields) {
         Ok(read) => read,
         Err(error) => return Err(error),
     };

@@ -1,10 +1,10 @@
 -- What is done to a line, as its energy is counted.
 use Rattle.std.specs.Prelude.{ℕ, List, Option, None, Some, slice_index_or}
 use Rattle.cell_rows.specs.{Energy.{counted_on, no_energy}, declared.array.LineEnergy.LineEnergy}
-use Rattle.line_pages.specs.{declared.work.Work.Work, declared.work.Work.TheVariants.{Drives, Sense}}
+use Rattle.line_pages.specs.{declared.work.LineWork.LineWork, declared.work.LineWork.TheVariants.{Drives, Sense}}
 
 -- the counts of a line, after this was done to it
-abbrev pub worked : Work → LineEnergy → LineEnergy
+abbrev pub worked : LineWork → LineEnergy → LineEnergy
 worked (Drives set reset) energy = record energy { set = counted_on energy.set set; reset = counted_on energy.reset reset }
 worked Sense energy = record energy { senses = counted_on energy.senses 1 }
 

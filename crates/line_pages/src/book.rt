@@ -8,7 +8,7 @@ ghost use Rattle.line_pages.specs.Book.{AgesAt, WearsAt};
 ghost use Rattle.line_pages.specs.Counting.{worked};
 ghost use Rattle.seeded_lines.specs.Young.{MayAge};
 
-use crate::work::{Work, worked};
+use crate::work::{LineWork, worked};
 use cell_rows::{Cells, LineEnergy};
 use seeded_lines::{SeededLine, YoungPage, wear_page};
 use std::alloc::{AllocError, Global};
@@ -139,7 +139,7 @@ impl<const B: usize, const M: usize> Book<SeededLine<B, M>> {
 
 impl Book<LineEnergy> {
     /// Counts what is done to the line on a page.
-    pub(crate) fn work(&mut self, index: usize, work: Work)
+    pub(crate) fn work(&mut self, index: usize, work: LineWork)
         requires { index < length self.old.pages }
         ensures pages { self.new.pages ≡ slice_set self.old.pages index
             (worked work (slice_index_or self.old.pages index no_energy)) }

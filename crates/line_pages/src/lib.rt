@@ -14,4 +14,4 @@ mod youths;
 
 pub use page_table::PageTable;
 pub use pages::Pages;
-pub use work::Work;
+pub use work::LineWork;

@@ -8,7 +8,7 @@ ghost use Rattle.seeded_lines.specs.Young.{MayAge, changes_in};
 
 use crate::book::Book;
 use crate::table::Table;
-use crate::work::{Work, worked};
+use crate::work::{LineWork, worked};
 use cell_rows::{Cells, LineEnergy};
 use seeded_lines::{SeededLine, YoungPage};
 use std::alloc::{AllocError, Global};
@@ -195,7 +195,7 @@ impl PageTable<LineEnergy> {
     // Counts what is done to a line that has no page. It stands apart, so that what is done to each other line is short.
     #[cold]
     #[inline(never)]
-    fn begin(&mut self, line: u32, work: Work)
+    fn begin(&mut self, line: u32, work: LineWork)
         requires exists { line < length self.old }
         requires none { page_at self.old line ≡ None }
         ensures { self.new ≡ slice_set self.old line (Some (worked work no_energy)) }
@@ -210,7 +210,7 @@ impl PageTable<LineEnergy> {
 
     /// Counts what is done to a line. One without a page gets one.
     #[inline(always)]
-    pub fn work(&mut self, line: u32, work: Work)
+    pub fn work(&mut self, line: u32, work: LineWork)
         requires { line < length self.old }
         ensures { self.new ≡ slice_set self.old line (Some (worked work (energy_at self.old line))) }
     {

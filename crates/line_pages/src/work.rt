@@ -6,7 +6,7 @@ use cell_rows::LineEnergy;
 
 /// What is done to a line.
 #[derive(Clone, Copy, Drop)]
-pub enum Work {
+pub enum LineWork {
     /// A pulse or a tear drives so many cells to 1 and so many to 0.
     Drives { set: u32, reset: u32 },
     Sense,
@@ -14,16 +14,16 @@ pub enum Work {
 
 /// The counts of a line, after this was done to it.
 #[inline(always)]
-pub(crate) fn worked(work: Work, energy: LineEnergy) -> LineEnergy
+pub(crate) fn worked(work: LineWork, energy: LineEnergy) -> LineEnergy
     ensures { result ≡ worked work energy }
 {
     match work {
-        Work::Drives { set, reset } => LineEnergy {
+        LineWork::Drives { set, reset } => LineEnergy {
             set: energy.set.saturating_add(set as u64),
             reset: energy.reset.saturating_add(reset as u64),
             senses: energy.senses,
         },
-        Work::Sense => LineEnergy {
+        LineWork::Sense => LineEnergy {
             set: energy.set,
             reset: energy.reset,
             senses: energy.senses.saturating_add(1),

@@ -5,7 +5,7 @@ use Rattle.module_shape.specs.{Addresses.{array_lines_of, module_of}, Limits.tot
 use Rattle.pcm_cells.specs.Seeded.{seeded_state}
 use Rattle.trace_stream.specs.declared.asked.Asked.{Asked}
 use Rattle.row_stream.specs.{Ending.{IsLeft, told_along}, Serving.{ServesOn, told_so_far}}
-use Rattle.pcm_library.specs.{Serving.{HasServedRows, Serving}, declared.keeper.Kept.Kept}
+use Rattle.pcm_library.specs.{Serving.{HasServedRows, Serving}, declared.keeper.KeptOutcome.KeptOutcome}
 use Rattle.pcm_c.specs.{declared.held.Held.Held, declared.held.Held.TheVariants.{Narrow, Wide}}
 
 module _ {n m e : ℕ} {S : Type 0} (state : S → ArrayState n m) where
@@ -39,7 +39,7 @@ module _ {n m e : ℕ} {S : Type 0} (state : S → ArrayState n m) where
     pub wear : (state new.array).wear ≡ (state old.array).wear
 
 -- the first outcome that waits is taken, or none where none waits, and all else stays
-pub record Hands {n m e : ℕ} {S : Type 0} (first : Option (Kept n)) (old new : Serving n m e S) : Type 0 where
+pub record Hands {n m e : ℕ} {S : Type 0} (first : Option (KeptOutcome n)) (old new : Serving n m e S) : Type 0 where
   pub waiting : old.kept.sink.waiting ≡ option_to_list first ++ new.kept.sink.waiting
   pub none : IfNone first (old.kept.sink.waiting ≡ [])
   pub taken : new.kept.sink.taken ≡ old.kept.sink.taken ++ option_to_list first

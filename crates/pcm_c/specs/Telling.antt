@@ -8,7 +8,7 @@ use Rattle.row_stream.specs.Answering.{backlog_of}
 use Rattle.pcm_cells.specs.Seeded.{seeded_state}
 use Rattle.wear_totals.specs.Wear.{wear_of}
 use Rattle.row_printer.specs.{declared.told.ArrayWear.ArrayWear, declared.told.Backlog.Backlog, declared.told.Mark.Mark, declared.told.Mark.TheVariants.{Going, Exhausted, Halted}}
-use Rattle.pcm_library.specs.declared.keeper.Kept.{Kept}
+use Rattle.pcm_library.specs.declared.keeper.KeptOutcome.{KeptOutcome}
 use Rattle.pcm_c.specs.{Calls.Hands, declared.backlog.ModuleBacklog.ModuleBacklog, declared.held.Held.Held, declared.held.Held.TheVariants.{Narrow, Wide}}
 use Rattle.pcm_c.specs.{declared.outcome.ModuleOutcome.ModuleOutcome, declared.wear.ModuleWear.ModuleWear}
 
@@ -27,7 +27,7 @@ kind_of (out.Cut tick) = 9
 kind_of out.Unset = 10
 
 -- an outcome is told so: its bytes are the first ones
-pub record IsTold {n : ℕ} (kept : Kept n) (told : ModuleOutcome) : Type 0 where
+pub record IsTold {n : ℕ} (kept : KeptOutcome n) (told : ModuleOutcome) : Type 0 where
   pub kind : told.kind ≡ kind_of kept.outcome
   pub row : told.row ≡ kept.row
   pub tick : told.tick ≡ unwrap_or (tick_of kept.outcome) 0
@@ -37,8 +37,8 @@ pub record IsTold {n : ℕ} (kept : Kept n) (told : ModuleOutcome) : Type 0 wher
 
 -- the first outcome that waits is taken and told
 abbrev pub HandsTold : Held → Held → ModuleOutcome → Type 0
-HandsTold (Narrow old) (Narrow new) told = (kept : Kept 64) × Hands (Some kept) old new × IsTold kept told
-HandsTold (Wide old) (Wide new) told = (kept : Kept 128) × Hands (Some kept) old new × IsTold kept told
+HandsTold (Narrow old) (Narrow new) told = (kept : KeptOutcome 64) × Hands (Some kept) old new × IsTold kept told
+HandsTold (Wide old) (Wide new) told = (kept : KeptOutcome 128) × Hands (Some kept) old new × IsTold kept told
 HandsTold (Narrow old) (Wide new) told = ⊥
 HandsTold (Wide old) (Narrow new) told = ⊥
 

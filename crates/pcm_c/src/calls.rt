@@ -3,7 +3,7 @@ ghost use Rattle.std.specs.Prelude.{◌≡◌, ◌≢◌, ◌≤◌, None, Some,
 ghost use Rattle.masked_bytes.specs.Masked.{laid};
 ghost use Rattle.trace_reader.specs.declared.event.EventOp.TheVariants.{Cut, Mask, Read, Write};
 ghost use Rattle.trace_stream.specs.declared.asked.Asked.TheVariants.{Happens, Settle, Until as Waits};
-ghost use Rattle.pcm_library.specs.declared.keeper.Kept.{Kept};
+ghost use Rattle.pcm_library.specs.declared.keeper.KeptOutcome.{KeptOutcome};
 ghost use Rattle.pcm_c.specs.Answers.{RowTold, finish_status, next_status, refusal_of_cut, refusal_of_masked, refusal_of_read, refusal_of_write, settle_status, status_number, wait_status};
 ghost use Rattle.pcm_c.specs.Calls.{Finishes, Hands, Takes};
 ghost use Rattle.pcm_c.specs.Telling.{IsTold};
@@ -106,7 +106,7 @@ pub(crate) fn next<const B: usize, const M: usize, const E: usize, A: CellArray<
     requires few { B ≤ 128 }
     ensures answer { result ≡ next_status session.old }
     ensures done { result ≡ Status.Done
-        → (kept : Kept B) × Hands (Some kept) session.old session.new × IsTold kept out.new }
+        → (kept : KeptOutcome B) × Hands (Some kept) session.old session.new × IsTold kept out.new }
     ensures none { result ≢ Status.Done → Hands None session.old session.new }
     ensures out { result ≢ Status.Done → out.new ≡ out.old }
 {

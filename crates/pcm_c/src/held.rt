@@ -21,15 +21,15 @@ use pcm_library::Session;
 use std::alloc::{AllocError, Global};
 use wear_totals::TotalledArray;
 
-type NarrowArray = TotalledArray<MemArray<64, 8>, 64, 8, 6>;
+type NarrowCells = TotalledArray<MemArray<64, 8>, 64, 8, 6>;
 
-type WideArray = TotalledArray<MemArray<128, 16>, 128, 16, 8>;
+type WideCells = TotalledArray<MemArray<128, 16>, 128, 16, 8>;
 
 /// A module whose lines have 64 bytes.
-pub type NarrowSession = Session<64, 8, 6, NarrowArray>;
+pub type NarrowSession = Session<64, 8, 6, NarrowCells>;
 
 /// A module whose lines have 128 bytes.
-pub type WideSession = Session<128, 16, 8, WideArray>;
+pub type WideSession = Session<128, 16, 8, WideCells>;
 
 /// A module with lines of one of the two sizes.
 #[derive(Drop)]
@@ -43,7 +43,7 @@ fn narrow(alloc: Global, chosen: &Chosen) -> Result<NarrowSession, AllocError>
     ensures { IfOk result (λ session.
         Begins seeded_state chosen.now.shape chosen.now.wear session) }
 {
-    let array: NarrowArray = TotalledArray::new(MemArray::new());
+    let array: NarrowCells = TotalledArray::new(MemArray::new());
     Session::new(alloc, chosen.shape, chosen.wear.seed, chosen.wear, array)
 }
 
@@ -52,7 +52,7 @@ fn wide(alloc: Global, chosen: &Chosen) -> Result<WideSession, AllocError>
     ensures { IfOk result (λ session.
         Begins seeded_state chosen.now.shape chosen.now.wear session) }
 {
-    let array: WideArray = TotalledArray::new(MemArray::new());
+    let array: WideCells = TotalledArray::new(MemArray::new());
     Session::new(alloc, chosen.shape, chosen.wear.seed, chosen.wear, array)
 }
 

@@ -3,7 +3,7 @@ ghost use Rattle.std.specs.Prelude.{◌≡◌, ◌≤◌, Some, unwrap_or, optio
 ghost use Rattle.result_rows.specs.Outcomes.{bytes_of, place_of, tick_of};
 ghost use Rattle.pcm_c.specs.Telling.{IsTold, kind_of};
 
-use pcm_library::Kept;
+use pcm_library::KeptOutcome;
 use result_rows::Outcome;
 
 /// What became of a row.
@@ -80,7 +80,7 @@ fn bytes<const B: usize>(outcome: &Outcome<B>) -> Option<&[u8; B]>
 }
 
 /// Tells an outcome to C.
-pub(crate) fn tell<const B: usize>(kept: &Kept<B>, told: &mut ModuleOutcome)
+pub(crate) fn tell<const B: usize>(kept: &KeptOutcome<B>, told: &mut ModuleOutcome)
     requires few { B ≤ 128 }
     ensures { IsTold kept.now told.new }
 {

@@ -3,11 +3,11 @@ ghost use Rattle.std.specs.Prelude.{◌≡◌, ◌<◌, ◌≤◌, ◌+◌, ◌*
 ghost use Rattle.cell_rows.specs.Energy.{reset_cells, set_cells, with_pulse, with_sense};
 ghost use Rattle.cell_rows.specs.Rows.{cell, members};
 ghost use Rattle.cell_rows.specs.Shape.{IsShape, IsWhole};
-ghost use Rattle.line_pages.specs.declared.work.Work.TheVariants.{Drives};
+ghost use Rattle.line_pages.specs.declared.work.LineWork.TheVariants.{Drives};
 ghost use Rattle.line_pages.specs.Counting.{worked, energy_at};
 
 use cell_rows::{Cells, LineEnergy};
-use line_pages::{PageTable, Work};
+use line_pages::{LineWork, PageTable};
 use std::alloc::{AllocError, Global};
 use std::marker::Model;
 
@@ -40,7 +40,7 @@ fn count_in<const B: usize, const M: usize>(
 }
 
 // What a pulse of these cells does to its line, or a tear, where rows are whole blocks.
-fn drives_blocks<const B: usize, const M: usize>(mask: &Cells<B, M>, want: &Cells<B, M>) -> Work
+fn drives_blocks<const B: usize, const M: usize>(mask: &Cells<B, M>, want: &Cells<B, M>) -> LineWork
     requires shape { IsShape B M }
     requires whole { IsWhole B M }
     ensures { result ≡ Drives (set_cells mask.now want.now) (reset_cells mask.now want.now) }
@@ -48,14 +48,14 @@ fn drives_blocks<const B: usize, const M: usize>(mask: &Cells<B, M>, want: &Cell
     let (data, data_set) = count_in(mask, want, 0, B / 8);
     let (checks, checks_set) = count_in(mask, want, B / 8, (B + M) / 8);
     let set = data_set + checks_set;
-    Work::Drives {
+    LineWork::Drives {
         set,
         reset: data + checks - set,
     }
 }
 
 // What a pulse of these cells does to its line, or a tear.
-fn drives<const B: usize, const M: usize>(mask: &Cells<B, M>, want: &Cells<B, M>) -> Work
+fn drives<const B: usize, const M: usize>(mask: &Cells<B, M>, want: &Cells<B, M>) -> LineWork
     requires { IsShape B M }
     ensures { result ≡ Drives (set_cells mask.now want.now) (reset_cells mask.now want.now) }
 {
@@ -63,7 +63,7 @@ fn drives<const B: usize, const M: usize>(mask: &Cells<B, M>, want: &Cells<B, M>
         return drives_blocks(mask, want);
     }
     let set = mask.meet(want).count();
-    Work::Drives {
+    LineWork::Drives {
         set,
         reset: mask.count() - set,
     }
@@ -121,7 +121,7 @@ impl Energies {
         }
     }
 
-    fn work(&mut self, line: u32, work: Work)
+    fn work(&mut self, line: u32, work: LineWork)
         requires { line < length self.old }
         ensures { self.new ≡ slice_set self.old line (Some (worked work (energy_at self.old line))) }
     {
@@ -151,6 +151,6 @@ impl Energies {
         requires { line < length self.old }
         ensures { self.new ≡ slice_set self.old line (with_sense (Some (energy_at self.old line))) }
     {
-        self.work(line, Work::Sense);
+        self.work(line, LineWork::Sense);
     }
 }

@@ -3,7 +3,7 @@ use Rattle.std.proofs.Common.{◌≡◌, ℕ, zero, suc, ◌<◌, true, false, �
 use Rattle.std.{specs.List.AllByRecursion, specs.Prelude.{map, replicate}, proofs.lemmas.Bool.eqb-true, proofs.lemmas.List.map_push}
 use Rattle.masked_bytes.{specs.Entries.{layer_of, AllMasked}, specs.Masked.{laid, none_given, IsMasked}, proofs.Layering.{laid-laid, laid-none_given}}
 use Rattle.masked_bytes.proofs.Queueing.{IsLayer-layer_of, layer_of-append, layer_of-append_other}
-use Rattle.pcm_image.{specs.Saved.{Head, IsSavedEntry, IsSavedBank, SavedBank}, specs.Standing.entry_of, specs.declared.EntryImage.EntryImage, proofs.Whole.all_to}
+use Rattle.pcm_image.{specs.Saved.{Head, IsSavedEntry, IsSavedBank, SavedBank}, specs.Standing.entry_of, specs.declared.EntryImage.EntryImage, proofs.Fronts.all_to}
 
 pub over_none : (n : ℕ) (under : List ℕ) → under ≡ laid (replicate n 0) (none_given n) under
 over_none n under = sym (laid-none_given n (replicate n 0) under)

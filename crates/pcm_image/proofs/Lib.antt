@@ -4,5 +4,6 @@ pub mod Bits
 pub mod Heads
 pub mod Steps
 pub mod Entries
+pub mod Fronts
 pub mod Whole
 pub mod Laying

@@ -5,6 +5,7 @@ use Rattle.std.proofs.{lemmas.List.{take_at, drop_at, take-append-drop, length-a
 use Rattle.std.proofs.lemmas.Nat.{le_bytes_2, le_bytes_4, le_bytes_8, from_le_bytes-to_le_bytes_2, from_le_bytes-to_le_bytes_4, from_le_bytes-to_le_bytes_8}
 use Rattle.pcm_image.specs.{Reading.{Cursor, Got, ◌>>=◌, fault, field, first_byte, byte_at, number_at, times}, Spelling.u8, declared.ImageFault.ImageFault}
 use Rattle.pcm_image.specs.{declared.ImageKind.ImageKind, declared.ImageKind.TheVariants.Short}
+use Rattle.pcm_image.specs.{Formats.{magic_of, width_of}, declared.Format.Format, declared.Format.TheVariants.{Small, Large}}
 
 abbrev pub IsBytes : List ℕ → Type 0
 IsBytes bytes = (i : ℕ) → get_or bytes i 0 < 256
@@ -118,6 +119,19 @@ wide64 = record {
   again = λ n lt. from_le_bytes-to_le_bytes_8 n lt;
   below = λ bytes fits. omega (arith, fits 0, fits 1, fits 2, fits 3, fits 4, fits 5, fits 6, fits 7);
 }
+
+-- a number of lines
+abbrev pub limit_of : Format → ℕ
+limit_of Small = 2 ^ 16
+limit_of Large = 2 ^ 32
+
+pub wide_of : (f : Format) → IsWide (width_of f) (limit_of f)
+wide_of Small = wide16
+wide_of Large = wide32
+
+pub magic-eight : (f : Format) → length (magic_of f) ≡ 8
+magic-eight Small = refl
+magic-eight Large = refl
 
 -- a number of a width that passes a test
 abbrev pub Passes : ℕ → (ℕ → Bool) → ℕ → Type 0

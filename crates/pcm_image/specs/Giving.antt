@@ -1,5 +1,5 @@
 -- What a reader of fields answers, against the definition.
-use Rattle.std.specs.Prelude.{◌≡◌, ◌*◌, ◌≤◌, Result, Ok, Err}
+use Rattle.std.specs.Prelude.{◌≡◌, Result, Ok, Err}
 use Rattle.pcm_image.specs.{Reading.Cursor, Saved.Head, declared.ImageFault.ImageFault, declared.fields.Fields.Fields, declared.fields.HeadImage.HeadImage}
 use Rattle.pcm_image.specs.declared.fields.ReadImage.{ReadImage}
 use Rattle.pcm_image.specs.declared.fields.ReadImage.TheVariants as read
@@ -18,10 +18,3 @@ Fails (read.Bad f) is = is ≡ Err f
 abbrev pub Gives : {X Y : Type 0} → (X → Y) → Result X ReadImage → Result Y ImageFault → Type 0
 Gives view (Ok x) is = is ≡ Ok (view x)
 Gives view (Err e) is = Fails e is
-
--- the numbers of a head that say how long an image is
-pub record IsSmall (h : Head) : Type 0 where
-  pub banks : h.banks ≤ 16
-  pub regions : h.regions ≤ 16
-  pub spares : h.spares ≤ 1024
-  pub lines : h.banks * h.regions * h.lines ≤ 65536

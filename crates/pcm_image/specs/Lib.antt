@@ -1,3 +1,4 @@
+pub mod Formats
 pub mod Saved
 pub mod Spelling
 pub mod Reading

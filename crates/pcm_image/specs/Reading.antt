@@ -1,10 +1,11 @@
--- An image read from left to right, field by field, up to the first that fails.
+-- An image of either format, read from left to right, field by field, up to the first that fails.
 use Rattle.std.specs.Int.{Width, w16, w32, w64, byte_len, from_le_bytes}
 use Rattle.std.specs.Prelude.{ℕ, zero, suc, ◌+◌, ◌*◌, ◌/◌, ◌&&◌, ◌==◌, nat_lt, nat_le, Bool, true, if◌then◌else◌, List, [], ◌∷◌, length, take, drop, Result, Ok, Err}
 use Rattle.std.specs.Str.{bytes_eq}
 use Rattle.masked_bytes.specs.Masked.{gives_some, zero_elsewhere}
 use Rattle.cell_rows.specs.{Rows.bit_of, declared.row.Cells.Cells}
-use Rattle.pcm_image.specs.{Saved.{Saved, SavedBank, Head, lines_in, slots_in, array_lines_in, is_lines}, Spelling.magic, declared.EntryImage.EntryImage}
+use Rattle.pcm_image.specs.{Formats.{magic_of, sizes_of, width_of}, Saved.{Saved, SavedBank, Head, lines_in, slots_in, array_lines_in, is_lines_in}, Spelling.magic}
+use Rattle.pcm_image.specs.{declared.EntryImage.EntryImage, declared.Format.Format, declared.Format.TheVariants.Small}
 use Rattle.pcm_image.specs.{declared.ImageFault.ImageFault, declared.ImageKind.ImageKind, declared.ImageKind.TheVariants.{Short, Magic, Size, Shape, Bank, Entry, Extra}}
 use Rattle.pcm_image.specs.declared.RegionImage.{RegionImage}
 use Rattle.module_shape.specs.Limits.{is_power_between}
@@ -68,21 +69,21 @@ is_size n = if n == 64 then true else n == 128
 abbrev pub is_size_of : ℕ → ℕ → Bool
 is_size_of B n = is_size n && n == B
 
-unfoldable pub head_at : ℕ → Cursor → Got Head
-head_at B c = do
-  size ← size_at magic (is_size_of B) c
-  banks ← byte_at Shape (is_power_between 1 16) size.1
-  regions ← byte_at Shape (is_power_between 1 16) banks.1
-  lines ← number_at w16 Shape (is_lines banks.0 regions.0) regions.1
+unfoldable pub head_at : Format → ℕ → Cursor → Got Head
+head_at f B c = do
+  size ← size_at (magic_of f) (is_size_of B) c
+  banks ← byte_at Shape (is_power_between 1 (sizes_of f).banks) size.1
+  regions ← byte_at Shape (is_power_between 1 (sizes_of f).regions) banks.1
+  lines ← number_at (width_of f) Shape (is_lines_in (sizes_of f) banks.0 regions.0) regions.1
   spares ← number_at w16 Shape (λ n. nat_le n 1024) lines.1
   seed ← number_at w64 Shape any spares.1
   home ← byte_at Shape (λ n. nat_lt n 2) seed.1
   Ok (record { banks = banks.0; regions = regions.0; lines = lines.0; spares = spares.0; seed = seed.0; home = home.0 }, home.1)
 
-unfoldable pub region_at : Head → Cursor → Got RegionImage
-region_at h c = do
-  start ← number_at w16 Bank (λ n. nat_lt n h.lines) c
-  gap ← number_at w16 Bank (λ n. nat_le n h.lines) start.1
+unfoldable pub region_at : Format → Head → Cursor → Got RegionImage
+region_at f h c = do
+  start ← number_at (width_of f) Bank (λ n. nat_lt n h.lines) c
+  gap ← number_at (width_of f) Bank (λ n. nat_le n h.lines) start.1
   counter ← number_at w16 Bank any gap.1
   Ok (record { start = start.0; gap = gap.0; counter = counter.0 }, counter.1)
 
@@ -102,12 +103,12 @@ entry_at B h c = do
   given ← field (B / 8) Entry (is_given B bytes.0) (λ bits. given_from bits 0 B) bytes.1
   Ok (record { line = line.0; bytes = bytes.0; given = given.0 }, given.1)
 
-unfoldable pub bank_at : (B : ℕ) → Head → Cursor → Got (SavedBank B)
-bank_at B h c = do
+unfoldable pub bank_at : Format → (B : ℕ) → Head → Cursor → Got (SavedBank B)
+bank_at f B h c = do
   mark ← byte_at Bank (λ n. nat_lt n 2) c
   used ← number_at w16 Bank (λ n. nat_le n h.spares) mark.1
   replaced ← times used.0 (number_at w32 Bank (λ n. nat_lt n (slots_in h))) used.1
-  regions ← times h.regions (region_at h) replaced.1
+  regions ← times h.regions (region_at f h) replaced.1
   count ← number_at w16 Bank (λ n. nat_le n 256) regions.1
   entries ← times count.0 (entry_at B h) count.1
   Ok (record { mark = mark.0; replaced = replaced.0; regions = regions.0; entries = entries.0 }, entries.1)
@@ -121,8 +122,8 @@ cells_at B M c = field (B + M) Short any (row_of B M) c
 -- what the bytes save, all of the bytes
 unfoldable pub image_of : (B M : ℕ) → List ℕ → Result (Saved B M) ImageFault
 image_of B M bytes = do
-  head ← head_at B (record { at = 0; left = bytes })
-  parts ← times head.0.banks (bank_at B head.0) head.1
+  head ← head_at Small B (record { at = 0; left = bytes })
+  parts ← times head.0.banks (bank_at Small B head.0) head.1
   cells ← times (head.0.banks * array_lines_in head.0) (cells_at B M) parts.1
   if length cells.1.left == 0 then Ok (record { head = head.0; parts = parts.0; cells = cells.0 }) else fault cells.1 Extra
 

@@ -53,10 +53,6 @@ array_lines_in h = slots_in h + h.spares + controls_in h
 abbrev pub is_lines_in : SizeLimits → ℕ → ℕ → ℕ → Bool
 is_lines_in most banks regions n = is_power_between 4 most.lines n && nat_le (banks * regions * n) most.total
 
--- of a small module: it has at most 65,536 lines in all
-abbrev pub is_lines : ℕ → ℕ → ℕ → Bool
-is_lines banks regions n = is_lines_in small_limits banks regions n
-
 -- the numbers are those of a module, of which there are most sizes
 pub record IsHeadIn (most : SizeLimits) (h : Head) : Type 0 where
   pub banks : IsTrue (is_power_between 1 most.banks h.banks)

@@ -3,25 +3,35 @@
 #![tactic(auto)]
 
 pub mod fields;
+mod formats;
 mod image;
-pub mod parts;
+mod parts;
 pub mod standing;
 mod writing;
 
 pub use fields::{HeadImage, ReadImage};
 pub use image::{BankImage, Image};
-pub use parts::{read_image, size_behind, size_of_line};
+pub use parts::{banks_of, read_image, row_at, size_behind, size_of_line};
 pub use writing::{
     write_bank, write_cells, write_count, write_entry, write_head, write_region, write_slot,
 };
+
+/// How an image is spelled.
+#[derive(Clone, Copy, PartialEq, Eq)]
+pub enum Format {
+    /// As that of a small module: a number of lines has two bytes.
+    Small,
+    /// As that of a large module: it has four.
+    Large,
+}
 
 /// The registers of a region, and its stores since the last move of its gap.
 #[derive(Clone, Copy, PartialEq, Eq)]
 pub struct RegionImage {
     /// Below the number of lines.
-    pub start: u16,
+    pub start: u32,
     /// At most the number of lines.
-    pub gap: u16,
+    pub gap: u32,
     /// Stores since the gap last moved.
     pub counter: u16,
 }

@@ -4,18 +4,21 @@ ghost use Rattle.std.specs.Int.{w16, w32};
 ghost use Rattle.masked_bytes.specs.Masked.{gives_some, zero_elsewhere};
 ghost use Rattle.cell_rows.specs.Rows.{bit_of};
 ghost use Rattle.pcm_image.specs.declared.ImageKind.TheVariants as kind;
-ghost use Rattle.pcm_image.specs.Saved.{Saved, IsSaved, IsSize, slots_in, lines_in, array_lines_in};
+ghost use Rattle.module_shape.specs.Limits.{large_limits};
+ghost use Rattle.pcm_image.specs.Formats.{width_of};
+ghost use Rattle.pcm_image.specs.Saved.{Saved, IsHeadIn, IsSaved, IsSize, slots_in, lines_in, array_lines_in};
 ghost use Rattle.pcm_image.specs.Spelling.{image_bytes};
 ghost use Rattle.pcm_image.specs.Reading.{any, byte_at, number_at, field, times, region_at, given_from, is_given, entry_at, bank_at, cells_at, image_of, is_size, size_behind, size_of};
-ghost use Rattle.pcm_image.specs.Giving.{Gives, IsSmall, cursor, head_view};
+ghost use Rattle.pcm_image.specs.Giving.{Gives, cursor, head_view};
 
-use crate::fields::{Fields, HeadImage, ReadImage, bad, head, u8_at, u16_at, u32_at};
-use crate::{BankImage, EntryImage, Image, ImageFault, ImageKind, RegionImage};
+use crate::fields::{Fields, HeadImage, ReadImage, bad, head, u8_at, u16_at, u32_at, wide_at};
+use crate::standing::{array_lines, bank_slots};
+use crate::{BankImage, EntryImage, Format, Image, ImageFault, ImageKind, RegionImage};
 use cell_rows::Cells;
 use std::alloc::Global;
 
-/// The mark of a bank.
-pub fn mark_at<'a>(fields: Fields<'a>) -> Result<(u8, Fields<'a>), ReadImage>
+// The mark of a bank.
+fn mark_at<'a>(fields: Fields<'a>) -> Result<(u8, Fields<'a>), ReadImage>
     requires { fields.at < 2 ^ 31 }
     ensures gives { Gives (λ x. (x.0, cursor x.1)) result
         (byte_at kind.Bank (λ n. nat_lt n 2) (cursor fields.entry)) }
@@ -28,8 +31,8 @@ pub fn mark_at<'a>(fields: Fields<'a>) -> Result<(u8, Fields<'a>), ReadImage>
     Ok((number, rest))
 }
 
-/// A number of a bank that is at most another.
-pub fn up_to<'a>(fields: Fields<'a>, most: u16) -> Result<(u16, Fields<'a>), ReadImage>
+// A number of a bank that is at most another.
+fn up_to<'a>(fields: Fields<'a>, most: u16) -> Result<(u16, Fields<'a>), ReadImage>
     requires { fields.at < 2 ^ 31 }
     ensures gives { Gives (λ x. (x.0, cursor x.1)) result
         (number_at w16 kind.Bank (λ n. nat_le n most) (cursor fields.entry)) }
@@ -44,21 +47,43 @@ pub fn up_to<'a>(fields: Fields<'a>, most: u16) -> Result<(u16, Fields<'a>), Rea
 }
 
 // The register Start of a region of so many lines.
-fn start_at<'a>(fields: Fields<'a>, lines: u16) -> Result<(u16, Fields<'a>), ReadImage>
+fn start_at<'a>(
+    fields: Fields<'a>,
+    format: Format,
+    lines: u32,
+) -> Result<(u32, Fields<'a>), ReadImage>
     requires { fields.at < 2 ^ 31 }
     ensures gives { Gives (λ x. (x.0, cursor x.1)) result
-        (number_at w16 kind.Bank (λ n. nat_lt n lines) (cursor fields.entry)) }
-    ensures at { IfOk result (λ x. x.1.at ≡ fields.entry.at + 2) }
+        (number_at (width_of format) kind.Bank (λ n. nat_lt n lines) (cursor fields.entry)) }
+    ensures at { IfOk result (λ x. x.1.at ≤ fields.entry.at + 4) }
 {
-    let (number, rest) = u16_at(fields)?;
+    let (number, rest) = wide_at(fields, format)?;
     if number >= lines {
         return Err(bad(&fields, ImageKind::Bank));
     }
     Ok((number, rest))
 }
 
-/// The stores of a region since its last move.
-pub fn counter_at<'a>(fields: Fields<'a>) -> Result<(u16, Fields<'a>), ReadImage>
+// The register Gap of a region of so many lines.
+fn gap_at<'a>(
+    fields: Fields<'a>,
+    format: Format,
+    lines: u32,
+) -> Result<(u32, Fields<'a>), ReadImage>
+    requires { fields.at < 2 ^ 31 }
+    ensures gives { Gives (λ x. (x.0, cursor x.1)) result
+        (number_at (width_of format) kind.Bank (λ n. nat_le n lines) (cursor fields.entry)) }
+    ensures at { IfOk result (λ x. x.1.at ≤ fields.entry.at + 4) }
+{
+    let (number, rest) = wide_at(fields, format)?;
+    if number > lines {
+        return Err(bad(&fields, ImageKind::Bank));
+    }
+    Ok((number, rest))
+}
+
+// The stores of a region since its last move.
+fn counter_at<'a>(fields: Fields<'a>) -> Result<(u16, Fields<'a>), ReadImage>
     requires { fields.at < 2 ^ 31 }
     ensures gives { Gives (λ x. (x.0, cursor x.1)) result
         (number_at w16 kind.Bank any (cursor fields.entry)) }
@@ -85,15 +110,16 @@ fn slot_at<'a>(fields: Fields<'a>, slots: u32) -> Result<(u32, Fields<'a>), Read
 #[tactic(auto, unfolding(crate::specs::Reading::region_at))]
 fn region_of<'a>(
     fields: Fields<'a>,
+    format: Format,
     head: HeadImage,
 ) -> Result<(RegionImage, Fields<'a>), ReadImage>
     requires { fields.at < 2 ^ 30 }
     ensures gives { Gives (λ x. (x.0, cursor x.1)) result
-        (region_at (head_view head) (cursor fields.entry)) }
-    ensures at { IfOk result (λ x. x.1.at ≡ fields.entry.at + 6) }
+        (region_at format (head_view head) (cursor fields.entry)) }
+    ensures at { IfOk result (λ x. x.1.at ≤ fields.entry.at + 10) }
 {
-    let (start, rest) = start_at(fields, head.lines)?;
-    let (gap, rest) = up_to(rest, head.lines)?;
+    let (start, rest) = start_at(fields, format, head.lines)?;
+    let (gap, rest) = gap_at(rest, format, head.lines)?;
     let (counter, rest) = counter_at(rest)?;
     Ok((
         RegionImage {
@@ -105,8 +131,8 @@ fn region_of<'a>(
     ))
 }
 
-/// The line of a write, in a bank of so many lines.
-pub fn entry_line<'a>(fields: Fields<'a>, lines: u32) -> Result<(u32, Fields<'a>), ReadImage>
+// The line of a write, in a bank of so many lines.
+fn entry_line<'a>(fields: Fields<'a>, lines: u32) -> Result<(u32, Fields<'a>), ReadImage>
     requires { fields.at < 2 ^ 31 }
     ensures gives { Gives (λ x. (x.0, cursor x.1)) result
         (number_at w32 kind.Entry (λ n. nat_lt n lines) (cursor fields.entry)) }
@@ -119,8 +145,8 @@ pub fn entry_line<'a>(fields: Fields<'a>, lines: u32) -> Result<(u32, Fields<'a>
     Ok((number, rest))
 }
 
-/// The bytes of a write.
-pub fn bytes_at<'a, const B: usize>(fields: Fields<'a>) -> Result<([u8; B], Fields<'a>), ReadImage>
+// The bytes of a write.
+fn bytes_at<'a, const B: usize>(fields: Fields<'a>) -> Result<([u8; B], Fields<'a>), ReadImage>
     requires at { fields.at < 2 ^ 31 }
     requires few { B ≤ 128 }
     ensures gives { Gives (λ x. (x.0, cursor x.1)) result
@@ -190,8 +216,8 @@ fn zeros(bytes: &[u8], given: &[bool]) -> bool
     true
 }
 
-/// Which bytes of a write are given.
-pub fn given_at<'a, const B: usize>(
+// Which bytes of a write are given.
+fn given_at<'a, const B: usize>(
     fields: Fields<'a>,
     bytes: &[u8; B],
 ) -> Result<([bool; B], Fields<'a>), ReadImage>
@@ -229,11 +255,12 @@ fn entry_of<'a, const B: usize>(
     requires at { fields.at < 2 ^ 30 }
     requires few { B ≤ 128 }
     requires whole { B % 8 ≡ 0 }
+    requires within { IsHeadIn large_limits (head_view head) }
     ensures gives { Gives (λ x. (x.0, cursor x.1)) result
         (entry_at B (head_view head) (cursor fields.entry)) }
     ensures at { IfOk result (λ x. x.1.at ≤ fields.entry.at + 148) }
 {
-    let (line, rest) = entry_line(fields, head.regions as u32 * head.lines as u32)?;
+    let (line, rest) = entry_line(fields, head.regions as u32 * head.lines)?;
     let (bytes, rest) = match bytes_at(rest) {
         Ok(read) => read,
         Err(error) => return Err(error),
@@ -245,8 +272,8 @@ fn entry_of<'a, const B: usize>(
     Ok((EntryImage { line, bytes, given }, rest))
 }
 
-/// The slots of the used spares.
-pub fn slots_of<'a>(
+// The slots of the used spares.
+fn slots_of<'a>(
     alloc: Global,
     fields: Fields<'a>,
     used: u16,
@@ -267,21 +294,39 @@ pub fn slots_of<'a>(
     Ok((items, rest))
 }
 
+// The slots of the used spares of a bank.
+fn replaced_of<'a>(
+    alloc: Global,
+    fields: Fields<'a>,
+    head: HeadImage,
+    used: u16,
+) -> Result<(Vec<u32>, Fields<'a>), ReadImage>
+    requires at { fields.at < 2 ^ 29 }
+    requires within { IsHeadIn large_limits (head_view head) }
+    ensures gives { Gives (λ x. (x.0.items, cursor x.1)) result
+        (times used (number_at w32 kind.Bank (λ n. nat_lt n (slots_in (head_view head))))
+        (cursor fields.entry)) }
+    ensures at { IfOk result (λ x. x.1.at ≤ fields.entry.at + 4 * used) }
+{
+    slots_of(alloc, fields, used, bank_slots(head))
+}
+
 // The registers of the regions.
 fn regions_of<'a>(
     alloc: Global,
     fields: Fields<'a>,
+    format: Format,
     head: HeadImage,
 ) -> Result<(Vec<RegionImage>, Fields<'a>), ReadImage>
     requires { fields.at < 2 ^ 29 }
     ensures gives { Gives (λ x. (x.0.items, cursor x.1)) result
-        (times head.regions (region_at (head_view head)) (cursor fields.entry)) }
-    ensures at { IfOk result (λ x. x.1.at ≤ fields.entry.at + 6 * head.regions) }
+        (times head.regions (region_at format (head_view head)) (cursor fields.entry)) }
+    ensures at { IfOk result (λ x. x.1.at ≤ fields.entry.at + 10 * head.regions) }
 {
     let mut items = Vec::new(alloc);
     let mut rest = fields;
     for _ in 0..head.regions {
-        let (item, after) = region_of(rest, head)?;
+        let (item, after) = region_of(rest, format, head)?;
         items.push(item)?;
         rest = after;
     }
@@ -298,6 +343,7 @@ fn entries_of<'a, const B: usize>(
     requires at { fields.at < 2 ^ 29 }
     requires few { B ≤ 128 }
     requires whole { B % 8 ≡ 0 }
+    requires within { IsHeadIn large_limits (head_view head) }
     ensures gives { Gives (λ x. (x.0.items, cursor x.1)) result
         (times count (entry_at B (head_view head)) (cursor fields.entry)) }
     ensures at { IfOk result (λ x. x.1.at ≤ fields.entry.at + 148 * count) }
@@ -315,30 +361,26 @@ fn entries_of<'a, const B: usize>(
     Ok((items, rest))
 }
 
-// What a bank keeps: at most 42,093 bytes.
+// What a bank keeps: at most 42,629 bytes.
 #[tactic(auto, unfolding(crate::specs::Reading::bank_at))]
 fn bank_of<'a, const B: usize>(
     alloc: Global,
     fields: Fields<'a>,
+    format: Format,
     head: HeadImage,
 ) -> Result<(BankImage<B>, Fields<'a>), ReadImage>
     requires at { fields.at < 2 ^ 28 }
     requires few { B ≤ 128 }
     requires whole { B % 8 ≡ 0 }
-    requires small { IsSmall (head_view head) }
+    requires within { IsHeadIn large_limits (head_view head) }
     ensures gives { Gives (λ x. (x.0, cursor x.1)) result
-        (bank_at B (head_view head) (cursor fields.entry)) }
-    ensures at { IfOk result (λ x. x.1.at ≤ fields.entry.at + 42093) }
+        (bank_at format B (head_view head) (cursor fields.entry)) }
+    ensures at { IfOk result (λ x. x.1.at ≤ fields.entry.at + 42629) }
 {
     let (mark, rest) = mark_at(fields)?;
     let (used, rest) = up_to(rest, head.spares)?;
-    let (replaced, rest) = slots_of(
-        alloc,
-        rest,
-        used,
-        head.regions as u32 * (head.lines as u32 + 1),
-    )?;
-    let (registers, rest) = regions_of(alloc, rest, head)?;
+    let (replaced, rest) = replaced_of(alloc, rest, head, used)?;
+    let (registers, rest) = regions_of(alloc, rest, format, head)?;
     let (count, rest) = up_to(rest, 256)?;
     let (entries, rest) = entries_of(alloc, rest, head, count)?;
     Ok((
@@ -352,24 +394,25 @@ fn bank_of<'a, const B: usize>(
     ))
 }
 
-// The banks, the first one behind the 24 bytes of the module's numbers.
-fn banks_of<'a, const B: usize>(
+/// The banks, the first one behind the module's numbers.
+pub fn banks_of<'a, const B: usize>(
     alloc: Global,
     fields: Fields<'a>,
+    format: Format,
     head: HeadImage,
 ) -> Result<(Vec<BankImage<B>>, Fields<'a>), ReadImage>
-    requires at { fields.at ≡ 24 }
+    requires at { fields.at ≤ 26 }
     requires few { B ≤ 128 }
     requires whole { B % 8 ≡ 0 }
-    requires small { IsSmall (head_view head) }
+    requires within { IsHeadIn large_limits (head_view head) }
     ensures gives { Gives (λ x. (x.0.items, cursor x.1)) result
-        (times head.banks (bank_at B (head_view head)) (cursor fields.entry)) }
-    ensures at { IfOk result (λ x. x.1.at ≤ 24 + 42093 * head.banks) }
+        (times head.banks (bank_at format B (head_view head)) (cursor fields.entry)) }
+    ensures at { IfOk result (λ x. x.1.at ≤ 26 + 42629 * head.banks) }
 {
     let mut items = Vec::new(alloc);
     let mut rest = fields;
     for _ in 0..head.banks {
-        let (item, after) = bank_of(alloc, rest, head)?;
+        let (item, after) = bank_of(alloc, rest, format, head)?;
         items.push(item)?;
         rest = after;
     }
@@ -431,21 +474,6 @@ fn rows_of<'a, const B: usize, const M: usize>(
     Ok((items, rest))
 }
 
-// How many array lines a module has.
-fn array_lines(head: HeadImage) -> u32
-    requires { IsSmall (head_view head) }
-    ensures is { result ≡ head.banks * array_lines_in (head_view head) }
-    ensures few { result ≤ 100000 }
-{
-    let controls = if head.home == 0 {
-        0
-    } else {
-        head.regions as u32 + head.spares as u32 + 1
-    };
-    head.banks as u32
-        * (head.regions as u32 * (head.lines as u32 + 1) + head.spares as u32 + controls)
-}
-
 // The whole of an image.
 #[tactic(auto, unfolding(crate::specs::Reading::image_of))]
 fn whole<const B: usize, const M: usize>(
@@ -455,22 +483,13 @@ fn whole<const B: usize, const M: usize>(
     requires { IsSize B M }
     ensures { Gives (λ image. image) result (image_of B M bytes.now) }
 {
-    let (head, rest) = head(Fields { at: 0, left: bytes }, B)?;
-    let (parts, rest) = banks_of(alloc, rest, head)?;
+    let (head, rest) = head(Fields { at: 0, left: bytes }, Format::Small, B)?;
+    let (parts, rest) = banks_of(alloc, rest, Format::Small, head)?;
     let (cells, rest) = rows_of(alloc, rest, array_lines(head))?;
     if !rest.left.is_empty() {
         return Err(bad(&rest, ImageKind::Extra));
     }
-    Ok(Image {
-        banks: head.banks,
-        regions: head.regions,
-        lines: head.lines,
-        spares: head.spares,
-        seed: head.seed,
-        home: head.home,
-        parts,
-        cells,
-    })
+    Ok(Image { head, parts, cells })
 }
 
 /// The module that the bytes spell, all of the bytes; or the first field that fails.

@@ -12,7 +12,8 @@ use pcm_io::Text;
 
 /// The 24 bytes of a head: the size of its lines, and its other numbers.
 pub fn write_head(text: &mut Text, size: u8, head: &HeadImage)
-    requires { 24 ≤ room_in text.old }
+    requires room { 24 ≤ room_in text.old }
+    requires lines { head.now.lines < 2 ^ 16 }
     ensures after { text.new ≡ appended text.old (head_bytes size (head_view head.now)) }
     ensures room { room_in text.new + 24 ≡ room_in text.old }
 {
@@ -23,12 +24,13 @@ pub fn write_head(text: &mut Text, size: u8, head: &HeadImage)
 
 // The other numbers of a module.
 fn write_limits(text: &mut Text, head: &HeadImage)
-    requires { 13 ≤ room_in text.old }
+    requires room { 13 ≤ room_in text.old }
+    requires lines { head.now.lines < 2 ^ 16 }
     ensures after { text.new ≡ appended text.old
         (u16 head.now.lines ++ (u16 head.now.spares ++ (u64 head.now.seed ++ u8 head.now.home))) }
     ensures room { room_in text.new + 13 ≡ room_in text.old }
 {
-    text.push(&head.lines.to_le_bytes());
+    text.push(&(head.lines as u16).to_le_bytes());
     text.push(&head.spares.to_le_bytes());
     text.push(&head.seed.to_le_bytes());
     text.push(&[head.home]);
@@ -55,12 +57,13 @@ pub fn write_slot(text: &mut Text, slot: u32)
 
 /// The registers of a region.
 pub fn write_region(text: &mut Text, region: &RegionImage)
-    requires { 6 ≤ room_in text.old }
+    requires room { 6 ≤ room_in text.old }
+    requires lines { (region.now.start < 2 ^ 16) × (region.now.gap < 2 ^ 16) }
     ensures after { text.new ≡ appended text.old (region_bytes region.now) }
     ensures room { room_in text.new + 6 ≡ room_in text.old }
 {
-    text.push(&region.start.to_le_bytes());
-    text.push(&region.gap.to_le_bytes());
+    text.push(&(region.start as u16).to_le_bytes());
+    text.push(&(region.gap as u16).to_le_bytes());
     text.push(&region.counter.to_le_bytes());
 }
 

@@ -7,10 +7,10 @@ use Rattle.row_printer.specs.{declared.snapshot.Snapshot.Snapshot, declared.told
 use Rattle.row_printer.{specs.declared.told.Told.TheVariants.Became, proofs.Once.{once-more, open-untold}, proofs.Telling.{length-recorded, outcomes-more, recorded-more}}
 use Rattle.pcm_module.specs.{State.ModuleState, Telling.{TellsByBanks, TellsFor}}
 use Rattle.row_rules.specs.declared.Asks.{Asks}
-use Rattle.pcm_library.{specs.Keeping.{KeepsOn, Waiting, kept_pairs, unfailing, unwritten}, specs.declared.keeper.Kept.Kept, proofs.Weaker.{banks-so, for-so}}
+use Rattle.pcm_library.{specs.Keeping.{KeepsOn, Waiting, kept_pairs, unfailing, unwritten}, specs.declared.keeper.KeptOutcome.KeptOutcome, proofs.Weaker.{banks-so, for-so}}
 
 -- outcomes behind outcomes
-pub pairs-more : {n : ℕ} (xs ys : List (Kept n)) → kept_pairs (xs ++ ys) ≡ kept_pairs xs ++ kept_pairs ys
+pub pairs-more : {n : ℕ} (xs ys : List (KeptOutcome n)) → kept_pairs (xs ++ ys) ≡ kept_pairs xs ++ kept_pairs ys
 pairs-more [] ys = refl
 pairs-more {n} (x ∷ xs) ys = ap (λ (t : List (ℕ × Outcome n)). (x.row, x.outcome) ∷ t) (pairs-more xs ys)
 
@@ -45,6 +45,6 @@ module _ {n : ℕ} where
   kept-for module_ row asks old new had = for-so KeepsOn (PrintsOn unwritten unfailing) (λ one two on. on.prints) table_told module_ row asks old new had
 
 -- the first that waits is the last that is taken
-pub pairs-shift : {n : ℕ} (taken : List (Kept n)) (one : Kept n) (rest : List (Kept n)) → kept_pairs taken ++ kept_pairs (one ∷ rest) ≡ kept_pairs (taken ++ one ∷ []) ++ kept_pairs rest
+pub pairs-shift : {n : ℕ} (taken : List (KeptOutcome n)) (one : KeptOutcome n) (rest : List (KeptOutcome n)) → kept_pairs taken ++ kept_pairs (one ∷ rest) ≡ kept_pairs (taken ++ one ∷ []) ++ kept_pairs rest
 pairs-shift [] one rest = refl
 pairs-shift {n} (x ∷ taken) one rest = ap (λ (t : List (ℕ × Outcome n)). (x.row, x.outcome) ∷ t) (pairs-shift taken one rest)

@@ -4,20 +4,20 @@ use Rattle.std.specs.Prelude.{◌≡◌, ℕ, ◌+◌, ◌-◌, ◌≤◌, List,
 use Rattle.result_rows.specs.declared.Outcome.{Outcome}
 use Rattle.row_printer.specs.{Printing.{Printing, PrintsOn}, Telling.{outcomes_in, TellsOnce}, declared.told.Told.Told}
 use Rattle.row_printer.specs.GoingOn as on
-use Rattle.pcm_library.specs.declared.keeper.Kept.{Kept}
+use Rattle.pcm_library.specs.declared.keeper.KeptOutcome.{KeptOutcome}
 
 -- the outcomes that were taken and those that wait, in order, and how many have room from the beginning
 pub record Waiting (n : ℕ) : Type 0 where
-  pub taken : List (Kept n)
-  pub waiting : List (Kept n)
+  pub taken : List (KeptOutcome n)
+  pub waiting : List (KeptOutcome n)
   pub room : ℕ
 
 -- an outcome that is kept
-abbrev pub kept_of : {n : ℕ} → ℕ → Outcome n → Kept n
+abbrev pub kept_of : {n : ℕ} → ℕ → Outcome n → KeptOutcome n
 kept_of row outcome = record { row = row; outcome = outcome }
 
 -- outcomes, each with its row
-abbrev pub kept_pairs : {n : ℕ} → List (Kept n) → List (ℕ × Outcome n)
+abbrev pub kept_pairs : {n : ℕ} → List (KeptOutcome n) → List (ℕ × Outcome n)
 kept_pairs [] = []
 kept_pairs (kept ∷ more) = (kept.row, kept.outcome) ∷ kept_pairs more
 

@@ -1,5 +1,5 @@
 // What keeps outcomes until they are taken.
-ghost use Rattle.std.specs.Prelude.{◌≡◌, ◌+◌, ◌<◌, ◌≤◌, [], ◌∷◌, ◌++◌, Some, IfNone, IfOk, OnErr, OnOk, IsTrue, is_some, length, option_to_list};
+ghost use Rattle.std.specs.Prelude.{◌≡◌, ◌+◌, ◌<◌, ◌≤◌, [], ◌∷◌, ◌++◌, Some, IfNone, IfOk, OnErr, OnOk, IsTrue, false, is_some, length, option_to_list};
 ghost use Rattle.std.specs.VecDeque.{deque_capacity, deque_len};
 ghost use Rattle.result_rows.specs.declared.Outcome.TheVariants.{Unset};
 ghost use Rattle.result_rows.specs.Outcomes.{op_of};
@@ -19,7 +19,7 @@ use std::marker::Model;
 
 /// What became of a row.
 #[derive(Clone, Copy, Drop)]
-pub struct Kept<const B: usize> {
+pub struct KeptOutcome<const B: usize> {
     /// The row's number, from 1.
     pub row: u32,
     pub outcome: Outcome<B>,
@@ -29,7 +29,7 @@ pub struct Kept<const B: usize> {
 /// is lost.
 #[derive(Drop)]
 pub struct Keeper<const B: usize> {
-    waiting: VecDeque<Kept<B>>,
+    waiting: VecDeque<KeptOutcome<B>>,
     // So many have room from the beginning.
     room: usize,
     // How many rows came.
@@ -40,7 +40,7 @@ pub struct Keeper<const B: usize> {
     heard: bool,
     // For contracts alone: one byte each.
     told: GhostList<Told<B>>,
-    taken: GhostList<Kept<B>>,
+    taken: GhostList<KeptOutcome<B>>,
 }
 
 impl<const B: usize> Model for Keeper<B> {
@@ -72,13 +72,13 @@ impl<const B: usize> Model for Keeper<B> {
 }
 
 // Puts an outcome behind those that wait.
-fn keep<const B: usize>(waiting: &mut VecDeque<Kept<B>>, row: u32, outcome: &Outcome<B>)
+fn keep<const B: usize>(waiting: &mut VecDeque<KeptOutcome<B>>, row: u32, outcome: &Outcome<B>)
     requires few { B ≤ 128 }
     requires room { deque_len waiting.old < deque_capacity waiting.old }
     ensures items { waiting.new.items ≡ waiting.old.items ++ kept_of row outcome.now ∷ [] }
     ensures capacity { deque_capacity waiting.new ≡ deque_capacity waiting.old }
 {
-    let kept = Kept {
+    let kept = KeptOutcome {
         row,
         outcome: *outcome,
     };
@@ -157,7 +157,7 @@ impl<const B: usize> Keeper<B> {
     }
 
     /// Takes the first outcome that waits.
-    pub fn next(&mut self) -> Option<Kept<B>>
+    pub fn next(&mut self) -> Option<KeptOutcome<B>>
         ensures rows { self.new.rows ≡ self.old.rows }
         ensures told { self.new.told ≡ self.old.told }
         ensures snapshots { self.new.snapshots ≡ self.old.snapshots }

@@ -9,7 +9,7 @@ mod serving;
 mod session;
 mod waiting;
 
-pub use keeper::{Keeper, Kept};
+pub use keeper::{Keeper, KeptOutcome};
 pub use looking::LineWear;
 pub use masking::masked;
 pub use session::{Answer, Session};

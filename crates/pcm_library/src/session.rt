@@ -17,7 +17,7 @@ ghost use Rattle.pcm_library.specs.Answers.{Answers, StopAnswers, answer_by, ref
 ghost use Rattle.pcm_library.specs.Keeping.{IsToldTo};
 ghost use Rattle.pcm_library.specs.Serving.{HasEndedRows, HasServedRows, most_open};
 
-use crate::keeper::{Keeper, Kept};
+use crate::keeper::{Keeper, KeptOutcome};
 use crate::serving::{drain, serve_event, serve_settle, stay_off};
 use crate::waiting::serve_until;
 use cell_rows::{CellArray, Wear};
@@ -422,7 +422,7 @@ impl<const B: usize, const M: usize, const E: usize, A: CellArray<B, M> + Drop> 
     }
 
     /// Takes the first outcome that waits.
-    pub fn next(&mut self) -> Option<Kept<B>>
+    pub fn next(&mut self) -> Option<KeptOutcome<B>>
         ensures module_ { self.new.module_ ≡ self.old.module_ }
         ensures array { self.new.array ≡ self.old.array }
         ensures asked { self.new.asked ≡ self.old.asked }

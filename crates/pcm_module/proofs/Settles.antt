@@ -1,5 +1,5 @@
--- The banks of a module are brought to a tick one after the other.
-use Rattle.std.proofs.Common.{◌≡◌, ℕ, ◌+◌, ◌<◌, ◌≤◌, false, List, [], ◌++◌, Option, Some, None, refl, sym, ap, subst, ◌∙◌, inl, inr, append_assoc, arith}
+-- Banks of a module are brought to a tick one after the other.
+use Rattle.std.proofs.Common.{◌≡◌, ◌≢◌, ◌⊎◌, ℕ, ◌+◌, ◌<◌, ◌≤◌, false, List, [], ◌++◌, Option, Some, None, refl, sym, ap, subst, ◌∙◌, inl, inr, append_assoc, arith}
 use Rattle.std.{specs.Prelude.{All, IsSomeAnd, slice_get, slice_set}, proofs.Math.ListN.length-set, proofs.lemmas.Bool.cases_eq}
 use Rattle.std.proofs.lemmas.List.Elements.{All-append, All-nil, All-weaker}
 use Rattle.circular_buffer.proofs.Places.{slice_get-set_same, slice_get-set_other}
@@ -29,12 +29,13 @@ module _ {n m e : ℕ} (tick : ℕ) (module_ : ModuleState n m e) (before : Arra
   abbrev shape_of : ℕ → BankShape
   shape_of k = bank_shape (module_of module_.shape) k
 
-  -- before the first bank
-  pub settle_none : (banks : List (ClockState n m e)) → MaySettle tick module_ banks before results → AreSettled tick module_ 0 banks before before results results
-  settle_none banks may = record {
+  -- before any bank has come
+  pub settle_none : (came : ℕ → Type 0) → ((bank : ℕ) → came bank → ⊥) → (banks : List (ClockState n m e)) → MaySettle tick module_ banks before results
+      → AreSettled tick module_ came banks before before results results
+  settle_none came none banks may = record {
     count = may.count;
-    ahead = λ bank above. ap (λ (cs : List (ClockState n m e)). slice_get cs bank) (sym may.same);
-    settled = λ bank none. absurd (omega (arith, none));
+    ahead = λ bank off. ap (λ (cs : List (ClockState n m e)). slice_get cs bank) (sym may.same);
+    settled = λ bank there. absurd (none bank there);
     rows = refl;
     replays = λ h asked f. (
       (λ bank. []),
@@ -48,8 +49,8 @@ module _ {n m e : ℕ} (tick : ℕ) (module_ : ModuleState n m e) (before : Arra
     stays = stays_same _ before;
   }
 
-  module _ (reached : ℕ) (banks : List (ClockState n m e)) (between : ArrayState n m) (recorded : List (Outcome n)) (clock : ClockState n m e)
-      (so_far : AreSettled tick module_ reached banks before between results recorded) (exists : reached < module_.shape.banks) (is : slice_get banks reached ≡ Some clock) where
+  module _ (came : ℕ → Type 0) (reached : ℕ) (banks : List (ClockState n m e)) (between : ArrayState n m) (recorded : List (Outcome n)) (clock : ClockState n m e)
+      (so_far : AreSettled tick module_ came banks before between results recorded) (exists : reached < module_.shape.banks) (is : slice_get banks reached ≡ Some clock) where
     -- the next bank replays what was asked of it
     pub settle_replays : (h : ℕ → List (TimedEvent n m)) (asked : List (Asked n)) (f : Replays h asked module_ before results)
         → BankReplays (shape_of reached) (pacing_in module_.shape) tick module_.rows_below ((so_far.replays h asked f).0 reached ++ h reached) (asked_in_bank module_ reached asked) between recorded clock
@@ -91,23 +92,24 @@ module _ {n m e : ℕ} (tick : ℕ) (module_ : ModuleState n m e) (before : Arra
           )
 
       -- the next bank has come to the tick
-      pub settle_one : IsReplayed module_ before results → LeavesOthers clock.bank recorded ended → AreSettled tick module_ (reached + 1) (slice_set banks reached next) before after results ended
-      settle_one led leaves = record {
+      pub settle_one : (with_it : ℕ → Type 0) → (came reached → ⊥) → ((k : ℕ) → with_it k → (k ≡ reached) ⊎ came k) → ((k : ℕ) → (with_it k → ⊥) → (k ≢ reached) × (came k → ⊥))
+          → IsReplayed module_ before results → LeavesOthers clock.bank recorded ended → AreSettled tick module_ with_it (slice_set banks reached next) before after results ended
+      settle_one with_it still_to_come either neither led leaves = record {
         count = length-set banks reached next ∙ so_far.count;
-        ahead = λ k above. slice_get-set_other banks reached k next (λ e. absurd (omega (arith, above, e))) ∙ so_far.ahead k (omega (arith, above));
-        settled = λ k below. elim (cases_eq k reached) [
+        ahead = λ k off. let both = neither k off in slice_get-set_other banks reached k next both.0 ∙ so_far.ahead k both.1;
+        settled = λ k there. elim (either k there) [
           | inl same ↦
               subst (λ (j : ℕ). IsSomeAnd (slice_get (slice_set banks reached next) j) (IsAtTick tick)) (sym same)
               (at_get (IsAtTick tick) (slice_get (slice_set banks reached next) reached) next (slice_get-set_same banks reached next (omega (arith, so_far.count, exists))) at.now)
-          | inr other ↦
-              subst (λ (o : Option (ClockState n m e)). IsSomeAnd o (IsAtTick tick)) (sym (slice_get-set_other banks reached k next other)) (so_far.settled k (omega (arith, below, other)))
+          | inr before_it ↦
+              subst (λ (o : Option (ClockState n m e)). IsSomeAnd o (IsAtTick tick)) (sym (slice_get-set_other banks reached k next (λ e. still_to_come (subst came e before_it)))) (so_far.settled k before_it)
         ];
         rows = s.1.rows ∙ so_far.rows;
         replays = replays_on;
         open_rows = λ row above unset. still row above (so_far.open_rows row above unset);
         others = λ row has nowhere.
             let stood = subst (λ (c : ClockState n m e). (has_row c.bank.kept.entries row ≡ false) × (has_waiting c.bank.waiting row ≡ false))
-            (bank_there module_ reached clock (sym (so_far.ahead reached (omega arith)) ∙ is)) (nowhere reached exists) in
+            (bank_there module_ reached clock (sym (so_far.ahead reached still_to_come) ∙ is)) (nowhere reached exists) in
             leaves row (row_kept results recorded row so_far.rows has) stood.0 stood.1 ∙ so_far.others row has nowhere;
         stays = stays_both _ before between after so_far.stays (stays_by (module_of module_.shape) reached clock.bank.kept.shape s.0 between after exists first.shaped s.1.adds);
       }
@@ -128,6 +130,16 @@ module _ {n m e : ℕ} (tick : ℕ) (module_ : ModuleState n m e) (before : Arra
               (above_all home number reached led.1 row
               (All-weaker (λ (c : Asked n). c.row < module_.rows_below) (λ (c : Asked n). c.row < row) (λ c less. omega (arith, less, above)) led.1 led.2.below)))) unset
 
+-- the banks below a number, and the next one
+pub next_below : (reached k : ℕ) → k < reached + 1 → (k ≡ reached) ⊎ (k < reached)
+next_below reached k below = elim (cases_eq k reached) [
+  | inl same ↦ inl same
+  | inr off ↦ inr (omega (arith, below, off))
+]
+
+pub not_next : (reached k : ℕ) → (k < reached + 1 → ⊥) → (k ≢ reached) × (k < reached → ⊥)
+not_next reached k off = (λ e. off (omega (arith, e)), λ below. off (omega (arith, below)))
+
 -- a module may be brought to a tick with the banks that it has
 pub may_settle : {n m e : ℕ} {old now : ModuleState n m e} {network : Network} {tick : ℕ} {before : ArrayState n m} {results : List (Outcome n)}
     → old ≡ now → IsModule old.shape old.seed network old.banks old.tick → now.tick ≤ tick → tick ≤ last_tick → IsReplayed now before results → MaySettle tick old old.banks before results
@@ -139,12 +151,12 @@ may_settle {n = n} {m = m} {e = e} {tick = tick} {before = before} {results = re
   led = subst (λ (o : ModuleState n m e). IsReplayed o before results) (sym same) led;
 }
 
-module _ {n m e : ℕ} {tick : ℕ} {module_ : ModuleState n m e} {banks : List (ClockState n m e)} {before after : ArrayState n m} {results recorded : List (Outcome n)}
-    (d : AreSettled tick module_ module_.shape.banks banks before after results recorded) (forward : module_.tick ≤ tick) where
+module _ {n m e : ℕ} {tick : ℕ} {module_ : ModuleState n m e} {came : ℕ → Type 0} {banks : List (ClockState n m e)} {before after : ArrayState n m} {results recorded : List (Outcome n)}
+    (d : AreSettled tick module_ came banks before after results recorded) (forward : module_.tick ≤ tick) where
   abbrev settled_module : ModuleState n m e
   settled_module = record module_ { banks = banks; tick = tick }
 
-  -- all banks have come to the tick
+  -- the module is at the tick
   pub settle_every : (h : ℕ → List (TimedEvent n m)) (asked : List (Asked n)) → Replays h asked module_ before results
       → (added : ℕ → List (TimedEvent n m)) × Replays (λ k. added k ++ h k) asked settled_module after recorded × ((k : ℕ) → IsQuiet (added k))
   settle_every h asked f =

@@ -22,12 +22,12 @@ module _ {n m e : ℕ} (tick : ℕ) (module_ : ModuleState n m e) where
     pub within : tick ≤ last_tick
     pub led : IsReplayed module_ array results
 
-  -- the banks below this number have come to the tick, and those from it on are as before; each bank's history goes on, and replays
-  -- what was asked before, by ends of actions alone; a row that stands in no bank keeps its outcome, and one that is still to come stays open
-  pub record AreSettled (reached : ℕ) (banks : List (ClockState n m e)) (before after : ArrayState n m) (results recorded : List (Outcome n)) : Type 0 where
+  -- the banks that came have come to the tick, and all others are as before; each bank's history goes on, and replays what was asked
+  -- before, by ends of actions alone; a row that stands in no bank keeps its outcome, and one that is still to come stays open
+  pub record AreSettled (came : ℕ → Type 0) (banks : List (ClockState n m e)) (before after : ArrayState n m) (results recorded : List (Outcome n)) : Type 0 where
     pub count : length banks ≡ module_.shape.banks
-    pub ahead : (bank : ℕ) → reached ≤ bank → slice_get banks bank ≡ slice_get module_.banks bank
-    pub settled : (bank : ℕ) → bank < reached → IsSomeAnd (slice_get banks bank) (IsAtTick tick)
+    pub ahead : (bank : ℕ) → (came bank → ⊥) → slice_get banks bank ≡ slice_get module_.banks bank
+    pub settled : (bank : ℕ) → came bank → IsSomeAnd (slice_get banks bank) (IsAtTick tick)
     pub rows : length recorded ≡ length results
     pub replays : (h : ℕ → List (TimedEvent n m)) (asked : List (Asked n)) → Replays h asked module_ before results
         → (added : ℕ → List (TimedEvent n m)) × ((bank : ℕ) → bank < module_.shape.banks

@@ -6,7 +6,7 @@ use crate::digits::in_short;
 use crate::sink::CaseSink;
 use crate::source::CaseSource;
 use crate::stream::{are_same, without_op};
-use crate::tally::Tally;
+use crate::tally::TextTally;
 use explain_top::explain_run;
 use pcm_cells::{CellArray, Cells, MemArray, ScriptArray};
 use pcm_top::pcm_run;
@@ -17,7 +17,7 @@ use wear_totals::{TellsWear, TotalledArray};
 
 /// What a run answered.
 #[derive(Drop)]
-struct Answer {
+struct CaseAnswer {
     status: u8,
     // The bytes that were written, and how they are shown.
     bytes: Vec<u8>,
@@ -114,7 +114,7 @@ fn changed(alloc: Global, image: &[u8], change: &str) -> Result<Vec<u8>, AllocEr
     Ok(bytes)
 }
 
-fn answer_of(alloc: Global, case: &Case, trace: &[u8]) -> Result<Answer, AllocError> {
+fn answer_of(alloc: Global, case: &Case, trace: &[u8]) -> Result<CaseAnswer, AllocError> {
     if case.seeded {
         let mut array = TotalledArray::new(MemArray::new());
         let mut wide = TotalledArray::new(MemArray::new());
@@ -143,8 +143,8 @@ fn answer_over<A: TellsWear<64, 8, 6>, V: TellsWear<128, 16, 8>>(
     trace: &[u8],
     array: &mut A,
     wide: &mut V,
-) -> Result<Answer, AllocError> {
-    let ends = Ends::new(alloc, case, trace)?;
+) -> Result<CaseAnswer, AllocError> {
+    let ends = CaseEnds::new(alloc, case, trace)?;
     let (status, ends) = run(alloc, case, array, wide, ends);
     let arrays = arrays_of(alloc, case, array, wide)?;
     ends.answer(alloc, case, status, arrays)
@@ -157,9 +157,9 @@ fn run<A: TellsWear<64, 8, 6>, V: TellsWear<128, 16, 8>>(
     case: &Case,
     array: &mut A,
     wide: &mut V,
-    ends: Ends,
-) -> (u8, Ends) {
-    let Ends {
+    ends: CaseEnds,
+) -> (u8, CaseEnds) {
+    let CaseEnds {
         mut source,
         mut out,
         mut err,
@@ -177,24 +177,24 @@ fn run<A: TellsWear<64, 8, 6>, V: TellsWear<128, 16, 8>>(
             (status, out)
         }
     };
-    (status, Ends { source, out, err })
+    (status, CaseEnds { source, out, err })
 }
 
 /// Where the bytes of a run come from and go to.
 #[derive(Drop)]
-struct Ends {
+struct CaseEnds {
     source: CaseSource,
     out: Box<CaseSink>,
     err: CaseSink,
 }
 
-impl Ends {
-    fn new(alloc: Global, case: &Case, trace: &[u8]) -> Result<Ends, AllocError> {
+impl CaseEnds {
+    fn new(alloc: Global, case: &Case, trace: &[u8]) -> Result<CaseEnds, AllocError> {
         let source = source(alloc, case, trace)?;
         let out = CaseSink::new(alloc, &case.out_fails, case.one_byte)?;
         let out = Box::new(alloc, out)?;
         let err = CaseSink::new(alloc, &case.err_fails, case.one_byte)?;
-        Ok(Ends { source, out, err })
+        Ok(CaseEnds { source, out, err })
     }
 
     fn answer(
@@ -203,7 +203,7 @@ impl Ends {
         case: &Case,
         status: u8,
         arrays: String,
-    ) -> Result<Answer, AllocError> {
+    ) -> Result<CaseAnswer, AllocError> {
         let bytes = Vec::from_slice(alloc, self.out.written())?;
         let out = if case.pieces.is_empty() {
             text_in(alloc, &self.out)?
@@ -211,7 +211,7 @@ impl Ends {
             image_in(alloc, case, bytes.as_slice())?
         };
         let err = text_in(alloc, &self.err)?;
-        Ok(Answer {
+        Ok(CaseAnswer {
             status,
             bytes,
             out,
@@ -311,7 +311,7 @@ fn digits(alloc: Global, bytes: &[u8]) -> Result<String, AllocError> {
     Ok(text)
 }
 
-fn push_answer(text: &mut String, case: &Case, answer: &Answer) -> Result<(), AllocError> {
+fn push_answer(text: &mut String, case: &Case, answer: &CaseAnswer) -> Result<(), AllocError> {
     let count = answer.out.as_str().lines().count();
     let skipped = match case.last {
         None => 0,
@@ -345,19 +345,19 @@ fn push_row(text: &mut String, row: &str, line_bytes: usize) -> Result<(), Alloc
 /// What many runs came to: the different tables of results, the rows of cuts left out, and the different ends.
 #[derive(Drop)]
 struct Runs {
-    tables: Tally,
-    ends: Tally,
+    tables: TextTally,
+    ends: TextTally,
 }
 
 impl Runs {
     fn new(alloc: Global) -> Runs {
         Runs {
-            tables: Tally::new(alloc),
-            ends: Tally::new(alloc),
+            tables: TextTally::new(alloc),
+            ends: TextTally::new(alloc),
         }
     }
 
-    fn count(&mut self, alloc: Global, case: &Case, answer: &Answer) -> Result<(), AllocError> {
+    fn count(&mut self, alloc: Global, case: &Case, answer: &CaseAnswer) -> Result<(), AllocError> {
         let table = without_cuts(alloc, answer.out.as_str())?;
         self.tables.count(table)?;
         let end = end_of(alloc, case, answer)?;
@@ -464,7 +464,7 @@ fn without_cuts(alloc: Global, out: &str) -> Result<String, AllocError> {
 }
 
 // The status, the number of rows, of the last ones the line and the bytes, and the lines on faults.
-fn end_of(alloc: Global, case: &Case, answer: &Answer) -> Result<String, AllocError> {
+fn end_of(alloc: Global, case: &Case, answer: &CaseAnswer) -> Result<String, AllocError> {
     let out = answer.out.as_str();
     let rows = out.lines().count().saturating_sub(1);
     let mut text = format!(in alloc; "status {} rows {rows}", answer.status)?;

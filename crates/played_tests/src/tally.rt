@@ -3,14 +3,14 @@ use std::alloc::{AllocError, Global};
 
 /// Texts in the order in which they first came, and how often each did.
 #[derive(Drop)]
-pub struct Tally {
+pub struct TextTally {
     pub texts: Vec<(String, u64)>,
 }
 
-impl Tally {
+impl TextTally {
     /// No text.
-    pub fn new(alloc: Global) -> Tally {
-        Tally {
+    pub fn new(alloc: Global) -> TextTally {
+        TextTally {
             texts: Vec::new(alloc),
         }
     }

@@ -12,7 +12,7 @@ use Rattle.row_rules.specs.{Rows.{asks_cut, asks_read, asks_write, is_cut, line_
 use Rattle.check_judging.specs.{Cutting.cut_ticks, Keys.{key, store_key, store_keys, read_key, read_keys, all_short}, Rising.rising, Runs.GivesSized}
 use Rattle.check_verdict.specs.{Covering.KeptLine, RowVerdicts.AreUsable, States.{Facts, Stands, no_facts}, Tables.around}
 use Rattle.check_verdict.specs.{Verdicts.{bank_in, all_rules, broken_by, or_later, verdict_from, verdict_of, no}, declared.Rule.Rule, declared.known.Coming.Coming}
-use Rattle.check_verdict.specs.{declared.lines.Line.Line, declared.lines.Run.Run}
+use Rattle.check_verdict.specs.{declared.lines.CheckedLine.CheckedLine, declared.lines.Run.Run}
 use Rattle.result_check.specs.{Coming.{coming_at, coming_of}, Going.GoesOn, Keeping.{banks_from, facts_in, Knows, KnowsLines, HasPassed, Meets}, Lines.AreFresh}
 use Rattle.result_check.{specs.Tables.{IsTable, IsRowOf, IsFound}, specs.declared.found.Found.Found, proofs.Finding.none_left}
 use Rattle.result_check.proofs.Rows.{one_of_all, one_of_every, all_short_of_brief}
@@ -132,7 +132,7 @@ before_more {n} rows i r here = ap reverse (taken rows i here) ∙ reverse-appen
     taken (q ∷ rows) (suc i) is = ap (λ xs. q ∷ xs) (taken rows i is)
 
 module _ {n : ℕ} (rules : Rules) (banks : List ℕ) (rows : List (Row n)) (table : IsTable (length banks) rows) (found : Found) (finds : IsFound banks rows found)
-    (i : ℕ) (r : Row n) (here : drop i rows ≡ r ∷ drop (suc i) rows) (cuts : ℕ) (kept : List Facts) (joined : Option ℕ) (lines : List (Line n)) (h : GoesOn rules banks rows i found cuts kept joined lines) where
+    (i : ℕ) (r : Row n) (here : drop i rows ≡ r ∷ drop (suc i) rows) (cuts : ℕ) (kept : List Facts) (joined : Option ℕ) (lines : List (CheckedLine n)) (h : GoesOn rules banks rows i found cuts kept joined lines) where
   abbrev before : List (Row n)
   before = reverse (take i rows)
 
@@ -194,7 +194,7 @@ module _ {n : ℕ} (rules : Rules) (banks : List ℕ) (rows : List (Row n)) (tab
       ∙ sym (h.so_far ∙ ap (verdict_from rules banks (i + 1) before) here)
 
   -- it breaks none
-  pub goes_on : (next : ℕ) (broken : Option Rule) (kept2 : List Facts) (joined2 : Option ℕ) (lines2 : List (Line n)) → next ≡ cond (asks_cut r.asks) (cuts + 1) cuts
+  pub goes_on : (next : ℕ) (broken : Option Rule) (kept2 : List Facts) (joined2 : Option ℕ) (lines2 : List (CheckedLine n)) → next ≡ cond (asks_cut r.asks) (cuts + 1) cuts
       → HasPassed rules banks before r after broken kept2 joined2 lines2 → broken ≡ None → length kept2 ≡ length kept → length lines2 ≡ length lines
       → GoesOn rules banks rows (i + 1) found next kept2 joined2 lines2
   goes_on next broken kept2 joined2 lines2 is p none size long =
@@ -218,7 +218,7 @@ module _ {n : ℕ} (rules : Rules) (banks : List ℕ) (rows : List (Row n)) (tab
       }
 
 -- no row is left
-pub goes_yes : {n : ℕ} (rules : Rules) (banks : List ℕ) (rows : List (Row n)) (i : ℕ) (found : Found) (cuts : ℕ) (kept : List Facts) (joined : Option ℕ) (lines : List (Line n))
+pub goes_yes : {n : ℕ} (rules : Rules) (banks : List ℕ) (rows : List (Row n)) (i : ℕ) (found : Found) (cuts : ℕ) (kept : List Facts) (joined : Option ℕ) (lines : List (CheckedLine n))
     → length rows ≤ i → GoesOn rules banks rows i found cuts kept joined lines → verdict_from rules banks (i + 1) (reverse (take i rows)) [] ≡ verdict_of rules banks rows
 goes_yes rules banks rows i found cuts kept joined lines le h = sym (h.so_far ∙ ap (verdict_from rules banks (i + 1) (reverse (take i rows))) (none_left i rows le))
 
@@ -234,7 +234,7 @@ pub record AreNew (counter : ℕ) (kept : List Facts) : Type 0 where
   pub number : length kept ≡ counter
   pub facts : (bank : ℕ) → facts_in kept bank ≡ no_facts
 
-pub record AreNewLines (n counter : ℕ) (lines : List (Line n)) : Type 0 where
+pub record AreNewLines (n counter : ℕ) (lines : List (CheckedLine n)) : Type 0 where
   pub number : length lines ≡ counter
   pub fresh : AreFresh n lines
 
@@ -249,7 +249,7 @@ banks_below number (b ∷ banks) = All-cons (λ bank. bank < banks_from number (
     (let h = banks_least (max number (b + 1)) banks in let k = le-max_right number (b + 1) in omega (arith, h, k)) (banks_below (max number (b + 1)) banks)
 
 -- no row has passed
-pub goes_first : {n : ℕ} (rules : Rules) (banks : List ℕ) (rows : List (Row n)) (found : Found) (kept : List Facts) (joined : Option ℕ) (lines : List (Line n)) → IsTable (length banks) rows → IsFound banks rows found
+pub goes_first : {n : ℕ} (rules : Rules) (banks : List ℕ) (rows : List (Row n)) (found : Found) (kept : List Facts) (joined : Option ℕ) (lines : List (CheckedLine n)) → IsTable (length banks) rows → IsFound banks rows found
     → length kept ≡ banks_from 0 banks → ((bank : ℕ) → facts_in kept bank ≡ no_facts) → length lines ≡ length banks → AreFresh n lines → joined ≡ None
     → GoesOn rules banks rows 0 found 0 kept joined lines
 goes_first {n} rules banks rows found kept joined lines table finds number facts long fresh none = record {

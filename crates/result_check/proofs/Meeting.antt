@@ -5,12 +5,12 @@ use Rattle.result_rows.specs.declared.Outcome.{Outcome}
 use Rattle.row_rules.specs.{Queueing.{waiting, awaits}, Table.{is_of, of_bank}, declared.Row.Row, declared.Rules.Rules}
 use Rattle.check_judging.specs.Keys.{reach}
 use Rattle.check_verdict.specs.{Fitting.is_brief, Members.never, Passing.joined_room, RowVerdicts.AreUsable, States.{Facts, settled}, Verdicts.bank_in, Within.AreWithin}
-use Rattle.check_verdict.{specs.declared.known.Coming.Coming, specs.declared.known.Keys.Keys, specs.declared.lines.Line.Line, proofs.Numbers.numbers_law}
+use Rattle.check_verdict.{specs.declared.known.Coming.Coming, specs.declared.known.Keys.Keys, specs.declared.lines.CheckedLine.CheckedLine, proofs.Numbers.numbers_law}
 use Rattle.check_verdict.proofs.{Passing.cut_room_law, States.stands_later_law, VerdictLaws.came_below}
 use Rattle.result_check.{specs.Keeping.{facts_in, Knows, KnowsLines, MayTake, IsNext, Meets}, proofs.Rows.short_of_brief}
 
 -- lines are known later too
-pub lines_later : {n : ℕ} (banks : List ℕ) (from tick : ℕ) (lines : List (Line n)) (before : List (Row n)) → from ≤ tick → KnowsLines banks from lines before → KnowsLines banks tick lines before
+pub lines_later : {n : ℕ} (banks : List ℕ) (from tick : ℕ) (lines : List (CheckedLine n)) (before : List (Row n)) → from ≤ tick → KnowsLines banks from lines before → KnowsLines banks tick lines before
 lines_later banks from tick lines before le k = λ l line is. let h = k l line is in record {
   newest_is = h.newest_is;
   open_is = h.open_is;
@@ -18,8 +18,8 @@ lines_later banks from tick lines before le k = λ l line is. let h = k l line i
 }
 
 -- once the bank of the last row is settled
-pub next_of : {n : ℕ} {rules : Rules} {banks : List ℕ} {keys : Keys} {before : List (Row n)} {r : Row n} {after : List (Row n)} {kept : List Facts} {joined : Option ℕ} {lines : List (Line n)} {coming : Coming} {cuts : List ℕ}
-    (new : List Facts) (joined2 : Option ℕ) (lines2 : List (Line n)) (room : Bool) (h : Meets rules banks keys before r after kept joined lines coming cuts)
+pub next_of : {n : ℕ} {rules : Rules} {banks : List ℕ} {keys : Keys} {before : List (Row n)} {r : Row n} {after : List (Row n)} {kept : List Facts} {joined : Option ℕ} {lines : List (CheckedLine n)} {coming : Coming} {cuts : List ℕ}
+    (new : List Facts) (joined2 : Option ℕ) (lines2 : List (CheckedLine n)) (room : Bool) (h : Meets rules banks keys before r after kept joined lines coming cuts)
     → room ≡ joined_room rules banks r.tick (facts_in kept) joined → lines2 ≡ lines → joined2 ≡ joined
     → ((from : ℕ) (rows : List (Row n)) → from ≤ r.tick → r.tick < never → Knows rules banks from kept joined rows → Knows rules banks r.tick new joined rows)
     → ((from : ℕ) (rows : List (Row n)) → from ≤ r.tick → r.tick < never → Knows rules banks from kept joined rows → room ≡ true → Knows rules banks r.tick new None rows)
@@ -29,14 +29,14 @@ next_of {n} {rules} {banks} {keys} {before} {r} {after} {kept} {joined} {lines} 
   knows = subst (λ j. Knows rules banks r.tick new j before) (sym like) (knows h.from before h.passed_by below h.knows);
   seen = seen h.from before h.passed_by below h.knows;
   all = cut_room_law n h.from rules banks h.knows.at (facts_in kept) joined before r after h.knows.passed h.passed_by below ∙ sym room_is;
-  lines_known = subst (λ (xs : List (Line n)). KnowsLines banks r.tick xs before) (sym same) (lines_later banks h.from r.tick lines before h.passed_by h.lines_known);
+  lines_known = subst (λ (xs : List (CheckedLine n)). KnowsLines banks r.tick xs before) (sym same) (lines_later banks h.from r.tick lines before h.passed_by h.lines_known);
 }
   where
     below : r.tick < never
     below = let reached = h.among.reached in omega (arith, reached)
 
 -- a row of a line may be judged then
-pub may_take : {n : ℕ} {rules : Rules} {banks : List ℕ} {keys : Keys} (tick line : ℕ) (outcome : Outcome n) (kept new : List Facts) (lines lines2 : List (Line n))
+pub may_take : {n : ℕ} {rules : Rules} {banks : List ℕ} {keys : Keys} (tick line : ℕ) (outcome : Outcome n) (kept new : List Facts) (lines lines2 : List (CheckedLine n))
     → AreWithin rules → AreUsable keys → line < length banks → All (λ bank. bank < length kept) banks → length lines ≡ length banks → is_brief outcome ≡ true → tick < reach
     → length new ≡ length kept → lines2 ≡ lines → MayTake rules banks keys tick line outcome new lines2
 may_take tick line outcome kept new lines lines2 limits usable within exist long brief reached size same = record {

@@ -12,7 +12,7 @@ use Rattle.check_verdict.specs.{Covering.KeptLine, Judged.{first_broken, beside,
 use Rattle.check_verdict.specs.{Kept.{sight, sight_of}, Members.never, Passing.{Passed, put}, RowVerdicts.{coming_to, is_apart, read_by, write_verdict, read_verdict}}
 use Rattle.check_verdict.specs.{States.{Facts, Stands, settled, after_write, after_read, cut_off}, Timely.first_of_ticks, VerdictLaws.Comes}
 use Rattle.check_verdict.specs.{Verdicts.{bank_in, all_rules, broken_by}, Within.AreWithin, declared.Rule.Rule, declared.known.Coming.Coming, declared.known.Keys.Keys}
-use Rattle.check_verdict.{specs.declared.lines.Line.Line, specs.declared.members.Member.Member, proofs.Judged.judge_cut_law}
+use Rattle.check_verdict.{specs.declared.lines.CheckedLine.CheckedLine, specs.declared.members.Member.Member, proofs.Judged.judge_cut_law}
 use Rattle.check_verdict.proofs.{Passing.{settle_one_law, row_passes_law, cut_passed_law}, States.{stands_later_law, write_passes_law, read_passes_law}}
 use Rattle.check_verdict.proofs.VerdictLaws.{write_verdict_law, read_verdict_law, newest_beside}
 use Rattle.result_check.{specs.Keeping.{facts_in, Knows, KnowsLines, MayTake, IsNext, HasPassed}, proofs.Keeping.{IsSettled, same_facts, put_set, facts_settled, bank_exists}}
@@ -47,7 +47,7 @@ none_broken true true true true true is = record { is_served = refl; has_room = 
 none_broken _ _ _ _ _ is = absurd (cc)
 
 -- a row of a line comes
-module _ {n : ℕ} {rules : Rules} {banks : List ℕ} {keys : Keys} {before : List (Row n)} {r : Row n} {after : List (Row n)} {kept : List Facts} {joined : Option ℕ} {lines : List (Line n)} {room : Bool} {coming : Coming} {cuts : List ℕ}
+module _ {n : ℕ} {rules : Rules} {banks : List ℕ} {keys : Keys} {before : List (Row n)} {r : Row n} {after : List (Row n)} {kept : List Facts} {joined : Option ℕ} {lines : List (CheckedLine n)} {room : Bool} {coming : Coming} {cuts : List ℕ}
     (h : IsNext rules banks keys before r after kept joined lines room coming cuts) (line : ℕ) (within : line < length banks) where
   abbrev own : ℕ
   own = bank_in banks line
@@ -112,7 +112,7 @@ read_ends tick line read bound cut some _ pos served timely = refl
 
 -- a write: what the code finds, and what it leaves
 pub write_taken : {n : ℕ} (rules : Rules) (banks : List ℕ) (keys : Keys) (before : List (Row n)) (tick line : ℕ) (bytes : List ℕ) (given : List Bool) (o : Outcome n) (after : List (Row n))
-    (kept kept1 kept2 : List Facts) (joined joined2 : Option ℕ) (lines lines2 : List (Line n)) (room : Bool) (asks : Asks n) (some : List ℕ) (coming : Coming) (cuts : List ℕ) (number : ℕ) (broken : Option Rule) (fb : Facts)
+    (kept kept1 kept2 : List Facts) (joined joined2 : Option ℕ) (lines lines2 : List (CheckedLine n)) (room : Bool) (asks : Asks n) (some : List ℕ) (coming : Coming) (cuts : List ℕ) (number : ℕ) (broken : Option Rule) (fb : Facts)
     → asks ≡ Writes line bytes given → IsNext rules banks keys before (a_row tick asks o) after kept joined lines room coming cuts
     → MayTake rules banks keys tick line o kept lines → IsSettled banks tick line kept kept1 number fb
     → broken ≡ write_verdict rules number fb some line (a_row tick asks o) room keys coming cuts
@@ -169,7 +169,7 @@ write_taken {n} rules banks keys before tick line bytes given o after kept kept1
 
 -- a read
 pub read_taken : {n : ℕ} (rules : Rules) (banks : List ℕ) (keys : Keys) (before : List (Row n)) (tick line : ℕ) (o : Outcome n) (after : List (Row n))
-    (kept kept1 kept2 : List Facts) (joined joined2 : Option ℕ) (lines lines2 : List (Line n)) (room : Bool) (asks : Asks n) (coming : Coming) (cuts : List ℕ) (number : ℕ) (broken : Option Rule) (fb : Facts) (ln : Line n)
+    (kept kept1 kept2 : List Facts) (joined joined2 : Option ℕ) (lines lines2 : List (CheckedLine n)) (room : Bool) (asks : Asks n) (coming : Coming) (cuts : List ℕ) (number : ℕ) (broken : Option Rule) (fb : Facts) (ln : CheckedLine n)
     → asks ≡ Reads line → IsNext rules banks keys before (a_row tick asks o) after kept joined lines room coming cuts
     → MayTake rules banks keys tick line o kept lines → IsSettled banks tick line kept kept1 number fb → slice_get lines line ≡ Some ln
     → broken ≡ read_verdict rules number fb ln line (a_row tick asks o) room keys coming cuts
@@ -238,7 +238,7 @@ read_taken {n} rules banks keys before tick line o after kept kept1 kept2 joined
 
 -- a cut
 pub cut_taken : {n : ℕ} (rules : Rules) (banks : List ℕ) (keys : Keys) (before : List (Row n)) (tick : ℕ) (o : Outcome n) (after : List (Row n))
-    (kept kept2 : List Facts) (joined joined2 : Option ℕ) (lines lines2 : List (Line n)) (room : Bool) (coming : Coming) (cuts : List ℕ) (broken : Option Rule)
+    (kept kept2 : List Facts) (joined joined2 : Option ℕ) (lines lines2 : List (CheckedLine n)) (room : Bool) (coming : Coming) (cuts : List ℕ) (broken : Option Rule)
     → IsNext rules banks keys before (a_cut tick o) after kept joined lines room coming cuts → tick < never
     → broken ≡ first_broken (may_have tick Cuts [] o) room true true true
     → (broken ≡ None → (bank : ℕ) → facts_in kept2 bank ≡ cut_off (settled tick (facts_in kept bank)))

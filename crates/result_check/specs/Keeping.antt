@@ -5,7 +5,7 @@ use Rattle.row_rules.specs.{Rows.asks_cut, declared.Row.Row, declared.Rules.Rule
 use Rattle.check_judging.specs.{Cutting.cut_ticks, Keys.{reach, is_short}, Rising.rising, Runs.GivesSized}
 use Rattle.check_verdict.specs.{Covering.KeptLine, Fitting.is_brief, Judged.beside, Passing.Passed, RowVerdicts.AreUsable, States.{Facts, no_facts}, VerdictLaws.HasKeys}
 use Rattle.check_verdict.specs.{Verdicts.{all_rules, broken_by, all_have_room}, Within.AreWithin, declared.Rule.Rule, declared.known.Coming.Coming, declared.known.Keys.Keys}
-use Rattle.check_verdict.specs.declared.lines.Line.{Line}
+use Rattle.check_verdict.specs.declared.lines.CheckedLine.{CheckedLine}
 use Rattle.result_check.specs.Coming.{coming_at}
 
 -- what is kept of a bank, these being the banks that are kept
@@ -24,13 +24,13 @@ pub record Knows {n : ℕ} (rules : Rules) (banks : List ℕ) (tick : ℕ)
   pub passed : Passed rules banks tick at (facts_in kept) joined before
 
 -- this is known of all lines
-abbrev pub KnowsLines : {n : ℕ} → List ℕ → ℕ → List (Line n) → List (Row n) → Type 0
+abbrev pub KnowsLines : {n : ℕ} → List ℕ → ℕ → List (CheckedLine n) → List (Row n) → Type 0
 KnowsLines {n} banks tick lines before =
-    (l : ℕ) (line : Line n) → slice_get lines l ≡ Some line
+    (l : ℕ) (line : CheckedLine n) → slice_get lines l ≡ Some line
     → KeptLine n tick l (beside banks l before) line.newest line.unclosed line.runs.items
 
 -- a row of a line may be judged: all is within its limits, and its bank and its line are kept
-pub record MayTake {n : ℕ} (rules : Rules) (banks : List ℕ) (keys : Keys) (tick line : ℕ) (outcome : Outcome n) (kept : List Facts) (lines : List (Line n)) : Type 0 where
+pub record MayTake {n : ℕ} (rules : Rules) (banks : List ℕ) (keys : Keys) (tick line : ℕ) (outcome : Outcome n) (kept : List Facts) (lines : List (CheckedLine n)) : Type 0 where
   pub within : AreWithin rules
   pub usable : AreUsable keys
   pub listed : line < length banks
@@ -52,7 +52,7 @@ pub record ComesAmong {n : ℕ} (banks : List ℕ) (keys : Keys) (before : List 
 
 -- such a row comes; this is known of the rows before it at its tick, and whether each bank has room
 pub record IsNext {n : ℕ} (rules : Rules) (banks : List ℕ) (keys : Keys) (before : List (Row n)) (r : Row n) (after : List (Row n))
-    (kept : List Facts) (joined : Option ℕ) (lines : List (Line n)) (room : Bool) (coming : Coming) (cuts : List ℕ) : Type 0 where
+    (kept : List Facts) (joined : Option ℕ) (lines : List (CheckedLine n)) (room : Bool) (coming : Coming) (cuts : List ℕ) : Type 0 where
   pub among : ComesAmong banks keys before r after coming cuts
   pub knows : Knows rules banks r.tick kept joined before
   pub seen : room ≡ true → Knows rules banks r.tick kept None before
@@ -61,7 +61,7 @@ pub record IsNext {n : ℕ} (rules : Rules) (banks : List ℕ) (keys : Keys) (be
 
 -- such a row comes; this was known behind the last row before it
 pub record Meets {n : ℕ} (rules : Rules) (banks : List ℕ) (keys : Keys) (before : List (Row n)) (r : Row n) (after : List (Row n))
-    (kept : List Facts) (joined : Option ℕ) (lines : List (Line n)) (coming : Coming) (cuts : List ℕ) : Type 0 where
+    (kept : List Facts) (joined : Option ℕ) (lines : List (CheckedLine n)) (coming : Coming) (cuts : List ℕ) : Type 0 where
   pub among : ComesAmong banks keys before r after coming cuts
   pub from : ℕ
   pub passed_by : from ≤ r.tick
@@ -70,7 +70,7 @@ pub record Meets {n : ℕ} (rules : Rules) (banks : List ℕ) (keys : Keys) (bef
 
 -- the rule that the row breaks first, and what is known behind it where it breaks none
 pub record HasPassed {n : ℕ} (rules : Rules) (banks : List ℕ) (before : List (Row n)) (r : Row n) (after : List (Row n))
-    (broken : Option Rule) (kept : List Facts) (joined : Option ℕ) (lines : List (Line n)) : Type 0 where
+    (broken : Option Rule) (kept : List Facts) (joined : Option ℕ) (lines : List (CheckedLine n)) : Type 0 where
   pub told : broken ≡ broken_by rules banks all_rules before r after
   pub knows : broken ≡ None → Knows rules banks r.tick kept joined (r ∷ before)
   pub lines_known : broken ≡ None → KnowsLines banks r.tick lines (r ∷ before)

@@ -27,14 +27,14 @@ ghost use Rattle.result_check.specs.Keeping.{banks_from, facts_in, Knows, MayTak
 ghost use Rattle.row_rules.specs.Lines.{IsOfLines};
 ghost use Rattle.result_check.specs.Outcomes as spec;
 ghost use Rattle.check_verdict.specs.declared.members.Member.{Member};
-ghost use Rattle.check_verdict.specs.declared.lines.Line.{Line};
+ghost use Rattle.check_verdict.specs.declared.lines.CheckedLine.{CheckedLine};
 
 use crate::found::bank_of;
 use crate::watched::Watched;
 use check_verdict::Rule;
 use check_verdict::judge::{judge_read, judge_write};
-use check_verdict::known::{Arrival, Grounds};
-use check_verdict::lines::Line;
+use check_verdict::known::{Arrival, JudgingGrounds};
+use check_verdict::lines::CheckedLine;
 use check_verdict::members::{Member, NEVER};
 use result_rows::Outcome;
 use row_rules::Rules;
@@ -82,7 +82,7 @@ fn member_of<const B: usize>(line: u32, tick: u64, outcome: &Outcome<B>) -> Memb
 
 /// Lets a write of a line pass: it changes what is kept of the line where it is accepted.
 fn pass_line<const B: usize>(
-    line: &mut Line<B>,
+    line: &mut CheckedLine<B>,
     tick: u64,
     bytes: &[u8; B],
     given: &[bool; B],
@@ -122,9 +122,9 @@ fn cut_all(banks: &mut Vec<Watched>, tick: u64)
 /// What is kept of the rows that have passed: of each bank and of each line, and the line of the last row, if it has one. Only
 /// that line's bank may hold more than it may.
 #[derive(Drop)]
-pub struct Kept<const B: usize> {
+pub struct KeptRows<const B: usize> {
     pub banks: Vec<Watched>,
-    pub lines: Vec<Line<B>>,
+    pub lines: Vec<CheckedLine<B>>,
     pub joined: Option<u32>,
 }
 
@@ -152,21 +152,24 @@ fn new_banks(alloc: Global, number: usize) -> Result<Vec<Watched>, AllocError>
 }
 
 /// So many lines of which no write has passed.
-fn new_lines<const B: usize>(alloc: Global, number: usize) -> Result<Vec<Line<B>>, AllocError>
+fn new_lines<const B: usize>(
+    alloc: Global,
+    number: usize,
+) -> Result<Vec<CheckedLine<B>>, AllocError>
     requires small { B ≤ 128 }
     ensures number { IfOk result (λ lines. length lines.items ≡ number) }
     ensures fresh { IfOk result (λ lines. AreFresh B lines.items) }
 {
     let mut lines = Vec::new(alloc);
     for _ in 0..number {
-        lines.push(Line::new(alloc))?;
+        lines.push(CheckedLine::new(alloc))?;
     }
     Ok(lines)
 }
 
-impl<const B: usize> Kept<B> {
+impl<const B: usize> KeptRows<B> {
     /// What is kept of no row.
-    pub fn new(alloc: Global, banks: &[u8]) -> Result<Kept<B>, AllocError>
+    pub fn new(alloc: Global, banks: &[u8]) -> Result<KeptRows<B>, AllocError>
         requires small { B ≤ 128 }
         ensures number { IfOk result (λ kept. length kept.banks.items ≡ banks_from 0 banks.now) }
         ensures facts { IfOk result (λ kept. (bank : ℕ)
@@ -175,7 +178,7 @@ impl<const B: usize> Kept<B> {
         ensures fresh { IfOk result (λ kept. AreFresh B kept.lines.items) }
         ensures joined { IfOk result (λ kept. kept.joined ≡ None) }
     {
-        Ok(Kept {
+        Ok(KeptRows {
             banks: new_banks(alloc, number_of_banks(banks))?,
             lines: new_lines(alloc, banks.len())?,
             joined: None,
@@ -251,7 +254,7 @@ impl<const B: usize> Kept<B> {
             (facts_in self.old.banks.items bank)))) }
         ensures number { IfOk result (λ _. length self.new.lines.items
             ≡ length self.old.lines.items) }
-        ensures lines { IfOk result (λ _. (old : Line B)
+        ensures lines { IfOk result (λ _. (old : CheckedLine B)
             → slice_get self.old.lines.items line ≡ Some old
             → LinePasses B tick bytes.now given.now outcome.now line self.old.lines.items old
             self.new.lines.items) }
@@ -288,7 +291,7 @@ impl<const B: usize> Kept<B> {
     /// Judges a write of a line, and lets it pass where it breaks no rule.
     fn take_write(
         &mut self,
-        grounds: Grounds,
+        grounds: JudgingGrounds,
         row: Arrival,
         op: &EventOp<B>,
         bytes: &[u8; B],
@@ -336,7 +339,7 @@ impl<const B: usize> Kept<B> {
     /// Judges a read of a line, and lets it pass where it breaks no rule.
     fn take_read(
         &mut self,
-        grounds: Grounds,
+        grounds: JudgingGrounds,
         row: Arrival,
         op: &EventOp<B>,
         outcome: &Outcome<B>,
@@ -409,7 +412,7 @@ impl<const B: usize> Kept<B> {
     /// Judges the next row, and lets it pass where it breaks no rule.
     pub fn take(
         &mut self,
-        grounds: Grounds,
+        grounds: JudgingGrounds,
         event: &Event<B>,
         outcome: &Outcome<B>,
     ) -> Result<Option<Rule>, AllocError>

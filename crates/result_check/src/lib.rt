@@ -18,10 +18,10 @@ mod kept;
 pub mod watched;
 
 use ahead::look_ahead;
-use check_verdict::known::{Coming, Grounds};
+use check_verdict::known::{Coming, JudgingGrounds};
 pub use check_verdict::{Rule, Verdict};
 use found::Found;
-use kept::Kept;
+use kept::KeptRows;
 use result_rows::Results;
 pub use row_rules::Rules;
 use std::alloc::{AllocError, Global};
@@ -62,7 +62,7 @@ fn pass_rows<const B: usize>(
     rules: &Rules,
     found: &Found,
     coming: &[Coming],
-    kept: &mut Kept<B>,
+    kept: &mut KeptRows<B>,
 ) -> Result<Verdict, AllocError>
     requires small { B ≤ 128 }
     requires within { AreWithin rules.now }
@@ -83,7 +83,7 @@ fn pass_rows<const B: usize>(
         cuts = cuts_with(cuts, &event.op);
         let behind = cuts_behind(&found.cuts, cuts);
         let ahead = item(coming, events.len() - 1 - i);
-        let grounds = Grounds {
+        let grounds = JudgingGrounds {
             rules,
             banks,
             keys: &found.keys,
@@ -115,6 +115,6 @@ pub fn check<const B: usize>(
 {
     let found = Found::of(alloc, events, results, banks)?;
     let coming = look_ahead(alloc, events, results, banks)?;
-    let mut kept = Kept::new(alloc, banks)?;
+    let mut kept = KeptRows::new(alloc, banks)?;
     pass_rows(events, results, banks, rules, &found, &coming, &mut kept)
 }

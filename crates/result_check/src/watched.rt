@@ -9,7 +9,7 @@ ghost use Rattle.check_verdict.specs.States as spec;
 ghost use Rattle.result_check.specs.Watching as watching;
 ghost use Rattle.result_check.specs.Watching.{least_of};
 
-use check_verdict::bank::Bank;
+use check_verdict::bank::CheckedBank;
 use check_verdict::members::{Member, NEVER};
 use check_verdict::queue::{has_line, has_room};
 use check_verdict::settling::twins_left;
@@ -20,7 +20,7 @@ use std::marker::Model;
 /// A bank, and what ends next there.
 #[derive(Drop)]
 pub struct Watched {
-    bank: Bank,
+    bank: CheckedBank,
     // No write is stored below this tick, and no read that waits is read.
     next: u64,
     // How many members have a later one of their line.
@@ -66,14 +66,14 @@ impl Watched {
         ensures { result ≡ spec.no_facts }
     {
         Watched {
-            bank: Bank::new(alloc),
+            bank: CheckedBank::new(alloc),
             next: 0,
             twins: 0,
         }
     }
 
     /// What is kept of the bank.
-    pub fn bank(&self) -> &Bank
+    pub fn bank(&self) -> &CheckedBank
         ensures { facts_of result.now ≡ self.now }
     {
         &self.bank

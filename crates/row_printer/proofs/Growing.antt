@@ -2,7 +2,7 @@
 use Rattle.std.proofs.Common.{◌≡◌, ℕ, ◌+◌, ◌-◌, ◌<◌, ◌≤◌, List, [], ◌∷◌, ◌++◌, length, replicate, refl, sym, ap, ◌∙◌, arith}
 use Rattle.std.proofs.lemmas.List.{length-replicate, replicate-append-replicate, set-append_left}
 use Rattle.result_rows.{specs.Table.with_outcome, specs.declared.Outcome.Outcome, specs.declared.Outcome.TheVariants.Unset, proofs.TableLemmas.length-with_outcome}
-use Rattle.run_text.specs.{Counting.counts_of, declared.counts.Counts.Counts}
+use Rattle.run_text.specs.{Counting.counts_of, declared.counts.OutcomeCounts.OutcomeCounts}
 use Rattle.row_printer.{specs.Printing.table_of, specs.Telling.{outcomes_in, recorded, TellsOnce}, specs.declared.told.Told.Told, proofs.Counted.counts-open}
 
 module _ {n : ℕ} where
@@ -33,7 +33,7 @@ module _ {n : ℕ} where
       ∙ recorded-open rows (outcomes_in told) (replicate rows Unset) once (length-replicate rows Unset)
 
   -- and isn't counted
-  pub counted-longer : (rows : ℕ) (told : List (Told n)) (counts : Counts) → TellsOnce rows (outcomes_in told) → counts ≡ counts_of (table_of rows told)
+  pub counted-longer : (rows : ℕ) (told : List (Told n)) (counts : OutcomeCounts) → TellsOnce rows (outcomes_in told) → counts ≡ counts_of (table_of rows told)
       → counts ≡ counts_of (table_of (rows + 1) told)
   counted-longer rows told counts once is =
       is ∙ sym (counts-open (table_of rows told)) ∙ ap (λ (xs : List (Outcome n)). counts_of xs) (sym (table-longer rows told once))

@@ -4,7 +4,7 @@ use Rattle.std.proofs.lemmas.Bool.{lt-ltb}
 use Rattle.masked_bytes.proofs.Counting.{count-cons}
 use Rattle.result_rows.specs.declared.Outcome.{Outcome}
 use Rattle.row_rules.specs.Answers.{is_full, is_worn}
-use Rattle.run_text.specs.{Counting.counts_of, declared.counts.Counts.Counts}
+use Rattle.run_text.specs.{Counting.counts_of, declared.counts.OutcomeCounts.OutcomeCounts}
 use Rattle.row_printer.specs.Refusing.{any_refused}
 
 some-or : (b : Bool) (rest : ℕ) → (b || nat_lt 0 rest) ≡ nat_lt 0 (cond b 1 0 + rest)
@@ -25,13 +25,13 @@ refused-counted (x ∷ xs) =
     ∙ ap (λ b. b || (is_worn x || nat_lt 0 (count_by is_worn xs))) (one-refused x xs is_full)
     ∙ ap (λ b. nat_lt 0 (count_by is_full (x ∷ xs)) || b) (one-refused x xs is_worn)
 
-pub by-full : {n : ℕ} (xs : List (Outcome n)) (counts : Counts) → counts ≡ counts_of xs → 0 < counts.full → nat_lt 0 counts.full ≡ any_refused xs
+pub by-full : {n : ℕ} (xs : List (Outcome n)) (counts : OutcomeCounts) → counts ≡ counts_of xs → 0 < counts.full → nat_lt 0 counts.full ≡ any_refused xs
 by-full xs counts are some =
     let yes : nat_lt 0 counts.full ≡ true = lt-ltb 0 counts.full some in
-    let full : count_by is_full xs ≡ counts.full = ap (λ (c : Counts). c.full) (sym are) in
+    let full : count_by is_full xs ≡ counts.full = ap (λ (c : OutcomeCounts). c.full) (sym are) in
     yes ∙ sym (refused-counted xs ∙ ap (λ b. b || nat_lt 0 (count_by is_worn xs)) (ap (λ (k : ℕ). nat_lt 0 k) full ∙ yes))
 
-pub by-worn : {n : ℕ} (xs : List (Outcome n)) (counts : Counts) → counts ≡ counts_of xs → counts.full ≤ 0 → nat_lt 0 counts.worn ≡ any_refused xs
+pub by-worn : {n : ℕ} (xs : List (Outcome n)) (counts : OutcomeCounts) → counts ≡ counts_of xs → counts.full ≤ 0 → nat_lt 0 counts.worn ≡ any_refused xs
 by-worn xs counts are none =
-    let full : count_by is_full xs ≡ 0 = ap (λ (c : Counts). c.full) (sym are) ∙ omega (arith, none) in
-    ap (λ (c : Counts). nat_lt 0 c.worn) are ∙ sym (refused-counted xs ∙ ap (λ (k : ℕ). nat_lt 0 k || nat_lt 0 (count_by is_worn xs)) full)
+    let full : count_by is_full xs ≡ 0 = ap (λ (c : OutcomeCounts). c.full) (sym are) ∙ omega (arith, none) in
+    ap (λ (c : OutcomeCounts). nat_lt 0 c.worn) are ∙ sym (refused-counted xs ∙ ap (λ (k : ℕ). nat_lt 0 k || nat_lt 0 (count_by is_worn xs)) full)

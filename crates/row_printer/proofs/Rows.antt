@@ -3,7 +3,7 @@ use Rattle.std.proofs.Common.{◌≡◌, ℕ, ◌^◌, ◌<◌, ◌≤◌, List,
 use Rattle.std.{specs.Prelude.{IsTrue, is_some}, proofs.lemmas.List.length-replicate}
 use Rattle.pcm_io.{specs.Faults.Rose, specs.Giving.AppendsPrefix, specs.Reserved.{Reserved, appended}, proofs.ByteLemmas.AppendsPrefix-longer}
 use Rattle.result_rows.specs.{Outcomes.op_of, Table.{HasRow, outcome_at, with_outcome}, declared.Outcome.Outcome, declared.Outcome.TheVariants.Unset}
-use Rattle.run_text.{specs.Counting.{counts_of, with_one}, specs.Gathering.Printed, specs.Laws.rows_counted, specs.declared.counts.Counts.Counts, proofs.Gathered.printed-more}
+use Rattle.run_text.{specs.Counting.{counts_of, with_one}, specs.Gathering.Printed, specs.Laws.rows_counted, specs.declared.counts.OutcomeCounts.OutcomeCounts, proofs.Gathered.printed-more}
 use Rattle.row_printer.specs.{Printing.{Prints, stream_text, table_of}, Snapshots.{snapshot_line, snapshots_header, snapshots_text}}
 use Rattle.row_printer.specs.{Telling.{told_head, told_line, told_text, outcomes_in, recorded, TellsOnce}, declared.snapshot.Snapshot.Snapshot, declared.told.Shown.Shown}
 use Rattle.row_printer.specs.{declared.told.Shown.TheVariants.{Rows, Snapshots}, declared.told.Told.Told, declared.told.Told.TheVariants.Became, declared.told.ToldShape.ToldShape}
@@ -110,14 +110,14 @@ table-set {n = n} rows told row outcome =
     ∙ recorded-more (outcomes_in told) (replicate rows Unset) row outcome
 
 -- and it is counted
-pub set-counted : {n : ℕ} (rows : ℕ) (told : List (Told n)) (row : ℕ) (outcome : Outcome n) (counts now : Counts) → counts ≡ counts_of (table_of rows told)
+pub set-counted : {n : ℕ} (rows : ℕ) (told : List (Told n)) (row : ℕ) (outcome : Outcome n) (counts now : OutcomeCounts) → counts ≡ counts_of (table_of rows told)
     → now ≡ with_one counts outcome → outcome_at (table_of rows told) row ≡ Some Unset → now ≡ counts_of (table_of rows (told ++ Became row outcome ∷ []))
 set-counted {n = n} rows told row outcome counts now is one unset =
-    one ∙ ap (λ (c : Counts). with_one c outcome) is ∙ sym (counts-more (table_of rows told) row outcome unset)
+    one ∙ ap (λ (c : OutcomeCounts). with_one c outcome) is ∙ sym (counts-more (table_of rows told) row outcome unset)
     ∙ ap (λ (table : List (Outcome n)). counts_of table) (sym (table-set rows told row outcome))
 
 -- where a row is open, not all that there may be are counted
-pub few-counted : {n : ℕ} (rows : ℕ) (told : List (Told n)) (row : ℕ) (counts : Counts) → rows < 2 ^ 32 → counts ≡ counts_of (table_of rows told)
+pub few-counted : {n : ℕ} (rows : ℕ) (told : List (Told n)) (row : ℕ) (counts : OutcomeCounts) → rows < 2 ^ 32 → counts ≡ counts_of (table_of rows told)
     → outcome_at (table_of rows told) row ≡ Some Unset → rows_counted counts < 4294967295
 few-counted {n = n} rows told row counts fits is unset =
     let none : List (Outcome n) = replicate rows Unset in

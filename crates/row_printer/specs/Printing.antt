@@ -3,7 +3,7 @@ use Rattle.std.specs.Prelude.{◌≡◌, ℕ, ◌≤◌, ◌||◌, Bool, true, f
 use Rattle.pcm_io.specs.{Faults.Rose, Giving.AppendsPrefix, Reserved.Reserved}
 use Rattle.result_rows.specs.{declared.Outcome.Outcome, declared.Outcome.TheVariants.Unset}
 use Rattle.text_printer.specs.declared.room.TheConstants.{TEXT_ROOM}
-use Rattle.run_text.specs.{Counting.counts_of, Gathering.Printed, declared.counts.Counts.Counts}
+use Rattle.run_text.specs.{Counting.counts_of, Gathering.Printed, declared.counts.OutcomeCounts.OutcomeCounts}
 use Rattle.row_printer.specs.{Snapshots.{IsShown, snapshots_header, snapshots_text}, Telling.{told_head, told_text, outcomes_in, became, recorded, some_told, TellsOnce}}
 use Rattle.row_printer.specs.{declared.snapshot.Snapshot.Snapshot, declared.told.Shown.Shown, declared.told.Shown.TheVariants.{Nothing, Rows, Snapshots}, declared.told.Told.Told}
 
@@ -61,7 +61,7 @@ module _ {n : ℕ} {S : Type 0} (written : S → Option (List ℕ)) (faults : S 
     pub printing : (before : Option (List ℕ)) (first : ℕ) → IsPrinting before first old → IsPrinting before first new
 
 -- each row was told once, and the outcomes are counted
-pub record IsTold {n : ℕ} (prints : Shown) (text : Reserved) (told : List (Told n)) (rows : ℕ) (counts : Counts) : Type 0 where
+pub record IsTold {n : ℕ} (prints : Shown) (text : Reserved) (told : List (Told n)) (rows : ℕ) (counts : OutcomeCounts) : Type 0 where
   pub few : n ≤ 128
   pub shown : IsShown prints
   pub limit : text.limit ≡ TEXT_ROOM

@@ -1,6 +1,6 @@
 -- The lines of snapshots of a stream, and behind which rows one stands.
 use Rattle.std.specs.{List.join_with_byte, Prelude.{◌≡◌, ℕ, ◌%◌, ◌≤◌, ◌==◌, Bool, true, false, List, [], ◌∷◌, ◌++◌, codes, decimal}}
-use Rattle.run_text.specs.declared.counts.Counts.{Counts}
+use Rattle.run_text.specs.declared.counts.OutcomeCounts.{OutcomeCounts}
 use Rattle.energy_report.specs.EnergyText.{energy_text}
 use Rattle.row_printer.specs.{declared.snapshot.Snapshot.Snapshot, declared.told.Shown.Shown, declared.told.Shown.TheVariants.{Nothing, Rows, Snapshots}}
 
@@ -9,7 +9,7 @@ abbrev pub snapshots_header : List ℕ
 snapshots_header = codes "rows,tick,stored,merged,queued,full,worn,read,forwarded,busy,lost,cut,retired,pulses,most,mean,pointers,senses,set,reset\n"
 
 -- the counts in the order of the summary, a comma behind each
-abbrev pub counts_text : Counts → List ℕ
+abbrev pub counts_text : OutcomeCounts → List ℕ
 counts_text counts =
     join_with_byte 44
     (decimal counts.stored ∷ decimal counts.merged ∷ decimal counts.queued ∷ decimal counts.full ∷ decimal counts.worn

@@ -7,7 +7,7 @@ use Rattle.bank_shape.specs.{declared.Home.Home, declared.Home.TheVariants.{Guar
 use Rattle.result_rows.specs.{Outcomes.op_of, RowText.outcome_fields, Table.with_outcome, declared.Outcome.Outcome}
 use Rattle.row_printer.specs.{declared.told.ArrayWear.ArrayWear, declared.told.Backlog.Backlog, declared.told.Mark.Mark, declared.told.Mark.TheVariants.{Going, Exhausted, Halted}}
 use Rattle.row_printer.specs.{declared.told.Told.Told, declared.told.Told.TheVariants.{Became, Bank, Looked, Peeked, Settled}, declared.told.ToldShape.ToldShape}
-use Rattle.row_printer.specs.{declared.told.Newest.Newest, declared.told.ToldRest.ToldRest}
+use Rattle.row_printer.specs.{declared.told.PeekedLine.PeekedLine, declared.told.ToldRest.ToldRest}
 
 -- the first line of a stream
 abbrev pub told_header : List ℕ
@@ -78,7 +78,7 @@ wear_row tick wear =
     ++ codes "\n"
 
 -- the line of a peek at a tick: the line's number, and its newest bytes in lower-case hexadecimal digits
-abbrev pub bytes_row : {n : ℕ} → ℕ → Newest n → List ℕ
+abbrev pub bytes_row : {n : ℕ} → ℕ → PeekedLine n → List ℕ
 bytes_row tick newest = codes ",bytes," ++ decimal tick ++ codes "," ++ decimal newest.line ++ codes "," ++ encode_lower newest.bytes ++ codes "\n"
 
 module _ {n : ℕ} where

@@ -9,4 +9,4 @@ mod told;
 pub use printer::RowPrinter;
 pub use snapshot::{Snapshot, print_snapshot, snapshots_header};
 pub use text::{print_head, print_told, stream_header};
-pub use told::{ArrayWear, Backlog, Mark, Newest, Shown, Told, ToldRest, ToldShape};
+pub use told::{ArrayWear, Backlog, Mark, PeekedLine, Shown, Told, ToldRest, ToldShape};

@@ -19,11 +19,11 @@ ghost use Rattle.row_printer.specs.Printing.{IsPrinting, Prints, PrintsOn, strea
 
 use crate::snapshot::{Snapshot, print_snapshot, snapshots_header};
 use crate::text::{print_head, print_told};
-use crate::told::{ArrayWear, Backlog, Newest, Shown, Told};
+use crate::told::{ArrayWear, Backlog, PeekedLine, Shown, Told};
 use ghost_list::GhostList;
 use pcm_io::{Sink, Text, WriteFault};
 use result_rows::{Outcome, Outcomes};
-use run_text::{Counts, make_room, print_rest, short_rows_are_counted};
+use run_text::{OutcomeCounts, make_room, print_rest, short_rows_are_counted};
 use std::marker::Model;
 use text_printer::TEXT_ROOM;
 
@@ -46,7 +46,7 @@ pub struct RowPrinter<const B: usize, S: Sink + Drop> {
     broken: bool,
     // Whether an outcome was told since it began to listen.
     heard: bool,
-    counts: Counts,
+    counts: OutcomeCounts,
 }
 
 impl<const B: usize, S: Sink + Drop> Model for RowPrinter<B, S> {
@@ -93,7 +93,7 @@ impl<const B: usize, S: Sink + Drop> RowPrinter<B, S> {
             prints,
             broken: false,
             heard: false,
-            counts: Counts::none(),
+            counts: OutcomeCounts::none(),
         }
     }
 
@@ -176,7 +176,7 @@ impl<const B: usize, S: Sink + Drop> RowPrinter<B, S> {
     }
 
     /// Tells what a line's newest bytes are, where every bank has come to a tick.
-    pub fn peeked(&mut self, tick: u64, newest: Newest<B>)
+    pub fn peeked(&mut self, tick: u64, newest: PeekedLine<B>)
         ensures rows { self.new.rows ≡ self.old.rows }
         ensures told { self.new.told ≡ self.old.told ++ Peeked tick newest.entry ∷ [] }
         ensures snapshots { self.new.snapshots ≡ self.old.snapshots }
@@ -306,7 +306,7 @@ impl<const B: usize, S: Sink + Drop> RowPrinter<B, S> {
     }
 
     /// How many rows had each outcome so far.
-    pub fn counts(&self) -> Counts
+    pub fn counts(&self) -> OutcomeCounts
         ensures { result ≡ counts_of (table_told self.now) }
     {
         self.counts

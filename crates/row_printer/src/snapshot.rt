@@ -6,7 +6,7 @@ ghost use Rattle.row_printer.specs.Snapshots.{counts_text, snapshot_line, snapsh
 use crate::told::ArrayWear;
 use energy_report::push_energy;
 use pcm_io::Text;
-use run_text::Counts;
+use run_text::OutcomeCounts;
 
 /// What stands behind a row of a stream, and in the end.
 #[derive(Clone, Copy, PartialEq, Eq)]
@@ -16,7 +16,7 @@ pub struct Snapshot {
     /// The tick that was reached.
     pub tick: u64,
     /// How many rows had each outcome.
-    pub counts: Counts,
+    pub counts: OutcomeCounts,
     /// The spares in use.
     pub retired: u32,
     /// How worn the array is.
@@ -50,7 +50,7 @@ pub fn print_snapshot(snapshot: &Snapshot, text: &mut Text)
 
 // The counts in the order of the summary, a comma behind each.
 #[tactic(auto, using(pcm_io::proofs::DigitLemmas::ten_digits))]
-fn push_counts(counts: &Counts, text: &mut Text)
+fn push_counts(counts: &OutcomeCounts, text: &mut Text)
     requires { 110 ≤ room_in text.old }
     ensures after { text.new ≡ appended text.old (counts_text counts.now) }
     ensures room { room_in text.old ≤ room_in text.new + 110 }

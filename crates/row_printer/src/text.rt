@@ -3,7 +3,7 @@ ghost use Rattle.std.specs.Prelude.{◌≡◌, ◌+◌, ◌*◌, ◌≤◌, leng
 ghost use Rattle.pcm_io.specs.Reserved.{room_in, appended};
 ghost use Rattle.row_printer.specs.Telling.{bank_row, bytes_row, driven_text, home_word, mark_word, policy_word, rest_text, settled_row, shape_row, told_head, told_header, told_line, told_row, version_of, wear_row};
 
-use crate::told::{ArrayWear, Backlog, Mark, Newest, Told, ToldRest, ToldShape};
+use crate::told::{ArrayWear, Backlog, Mark, PeekedLine, Told, ToldRest, ToldShape};
 use bank_shape::{Home, Policy};
 use cell_rows::LineEnergy;
 use pcm_io::Text;
@@ -173,7 +173,7 @@ fn print_wear(tick: u64, wear: &ArrayWear, text: &mut Text)
 
 // What the newest bytes of a line are at a tick.
 #[tactic(auto, using(pcm_io::proofs::DigitLemmas::ten_digits, pcm_io::proofs::DigitLemmas::twenty_digits))]
-fn print_newest<const B: usize>(tick: u64, newest: &Newest<B>, text: &mut Text)
+fn print_newest<const B: usize>(tick: u64, newest: &PeekedLine<B>, text: &mut Text)
     requires size { B ≤ 128 }
     requires room { 320 ≤ room_in text.old }
     ensures { text.new ≡ appended text.old (bytes_row tick newest.now) }

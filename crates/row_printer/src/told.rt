@@ -14,7 +14,7 @@ pub enum Told<const B: usize> {
     /// How worn the array is, where every bank has come to this tick.
     Looked(u64, ArrayWear),
     /// What a line's newest bytes are, where every bank has come to this tick.
-    Peeked(u64, Newest<B>),
+    Peeked(u64, PeekedLine<B>),
     /// Every bank has come to this tick.
     Settled(u64),
 }
@@ -45,7 +45,7 @@ pub enum Mark {
 
 /// The newest bytes of a line.
 #[derive(Clone, Copy, PartialEq)]
-pub struct Newest<const B: usize> {
+pub struct PeekedLine<const B: usize> {
     /// The line, from 0.
     pub line: u32,
     /// Its bytes: those that its bank accepted last, 0 where it accepted none.

@@ -43,7 +43,7 @@ module _ {n : ℕ} where
   all-behind P (x ∷ xs) ys is all = absurd (cc is)
 
   -- what came at a tick came behind an earlier one
-  at-between : (low tick : ℕ) → low < tick → (o : Outcome n) → tick_of o ≡ Some tick → CameBetween low tick o
+  pub at-between : (low tick : ℕ) → low < tick → (o : Outcome n) → tick_of o ≡ Some tick → CameBetween low tick o
   at-between low tick rises o is = (tick, (rises, omega arith), is)
 
   module _ {S : Type 0} (written : S → Option (List ℕ)) (faults : S → ℕ) (old new : Printing n S) (on : PrintsOn written faults old new) where

@@ -11,7 +11,7 @@ use Rattle.module_shape.specs.declared.raw.RawShape.{RawShape}
 use Rattle.right_runs.specs.Banks.{bank_of_line}
 use Rattle.pcm_module.specs.{Asking.asked_for, Telling.{TellsOf, TellsByBanks, TellsInOrder, is_asked_of}}
 use Rattle.row_printer.specs.{Printing.{Printing, PrintsOn, table_told}, Telling.{became, outcomes_in, recorded, tells, TellsOnce}, declared.told.Told.Told}
-use Rattle.row_printer.{specs.declared.told.Told.TheVariants.{Became, Bank, Looked, Settled}, proofs.Once.{open-untold, stays-told}, proofs.Telling.length-recorded}
+use Rattle.row_printer.{specs.declared.told.Told.TheVariants.{Became, Bank, Looked, Peeked, Settled}, proofs.Once.{open-untold, stays-told}, proofs.Telling.length-recorded}
 use Rattle.row_stream.{specs.Serving.{ComeByBanks, ComeBehind, ComeInTurn, ComeOfBank}, proofs.Each.some-at, proofs.Growing.none}
 use Rattle.row_stream.proofs.InTurn.{EachSo, Within, by-tick, each-all, from-first, within-both, within-later, within-one}
 
@@ -26,6 +26,7 @@ module _ {n : ℕ} where
   outcomes-became (Became row outcome ∷ told) outcomes = ap (λ (rest : List (ℕ × Outcome n)). (row, outcome) ∷ rest) (outcomes-became told outcomes)
   outcomes-became (Bank tick backlog ∷ told) outcomes = outcomes-became told outcomes
   outcomes-became (Looked tick wear ∷ told) outcomes = outcomes-became told outcomes
+  outcomes-became (Peeked tick newest ∷ told) outcomes = outcomes-became told outcomes
   outcomes-became (Settled tick ∷ told) outcomes = outcomes-became told outcomes
 
   became-both : (xs ys : List (ℕ × Outcome n)) → became (xs ++ ys) ≡ became xs ++ became ys

@@ -1,5 +1,5 @@
 -- What a step of a stream does to what was served before.
-use Rattle.std.proofs.Common.{◌≡◌, ◌≢◌, ℕ, ◌<◌, ◌+◌, ◌&&◌, Bool, true, false, List, ◌∷◌, Option, Some, sym, ap, ◌∙◌, subst, inl, inr, refl}
+use Rattle.std.proofs.Common.{◌≡◌, ◌≢◌, ℕ, ◌<◌, ◌+◌, ◌&&◌, Bool, true, false, List, ◌∷◌, Option, Some, sym, ap, ◌∙◌, subst, inl, inr}
 use Rattle.std.specs.Io.KnownBytes.{Appends, IsAtEnd}
 use Rattle.cell_rows.specs.Device.{ArrayState}
 use Rattle.pcm_io.specs.{Faults.Rose, Giving.AppendsPrefix}
@@ -7,10 +7,10 @@ use Rattle.module_shape.specs.{Limits.total_of, declared.raw.RawShape.RawShape}
 use Rattle.pcm_module.specs.State.{ModuleState}
 use Rattle.row_printer.specs.{Printing.{IsPrinting, Printing, table_told, text_told}, Refusing.any_refused, declared.snapshot.Snapshot.Snapshot, declared.told.Shown.Shown}
 use Rattle.row_printer.specs.declared.told.Told.{Told}
-use Rattle.trace_stream.specs.{Asked.reached_at, Kept.decides, Stream.Standing, declared.asked.Asked.Asked}
+use Rattle.trace_stream.specs.{Asked.reached_at, Stream.Standing, declared.asked.Asked.Asked}
 use Rattle.row_stream.specs.{Asking.behind_of, Refusing.{EndsBehind, GoesAsFar}, Serving.{IsServing, MayServe, ServesOn, told_before, told_so_far}}
-use Rattle.row_stream.specs.{Sourcing.{GivesNext, HasStopped, IsRead, IsReadTo}, Stepping.{AsksBehind, GoesOn, IsTaken, Rests, Steps, TakesRow, TellsNoMore, Writes}}
-use Rattle.row_stream.specs.{declared.stop.Behind.Behind, declared.stop.Step.Step, declared.stop.Step.TheVariants.{Goes, Ends, Stops}, declared.stop.Stop.Stop}
+use Rattle.row_stream.specs.{Sourcing.{GivesNext, HasStopped, IsRead, IsReadTo}, Stepping.{GoesOn, IsTaken, Rests, Steps, TakesRow, TellsNoMore, Writes}}
+use Rattle.row_stream.specs.{declared.stop.Behind.Behind, declared.stop.StreamStep.StreamStep, declared.stop.StreamStep.TheVariants.{Goes, Ends, Stops}, declared.stop.Stop.Stop}
 use Rattle.row_stream.{specs.declared.stop.Stop.TheVariants.Output, proofs.Alike.told-same, proofs.Refusals.{ends-all, ends-there, still-none}}
 use Rattle.row_stream.proofs.Rows.{HasFed, far-late, far-no-next, fed-come, fed-ended, fed-given, fed-late, fed-no-next, fed-same, fed-so-far, next-few}
 
@@ -49,7 +49,7 @@ module _ {n m e : ℕ} {K : Type 0} (old new : ModuleState n m e) (before after 
 
 module _ {n m e : ℕ} {K : Type 0} (stops : Bool) (old new : ModuleState n m e) (before after : ArrayState n m) (out mid now : Printing n K) (row : Asked n) where
   -- a row was served, and then the stream goes on or doesn't
-  pub takes-then : (behind : Behind) (step : Step) → ServesOn (λ earlier. reached_at new.tick row) old new before after out mid → TellsNoMore mid now
+  pub takes-then : (behind : Behind) (step : StreamStep) → ServesOn (λ earlier. reached_at new.tick row) old new before after out mid → TellsNoMore mid now
       → ((earlier : List (Asked n)) → behind ≡ behind_of (row ∷ earlier)) → GoesOn behind (stops && any_refused (table_told now)) step → TakesRow stops old new before after out now row step
   takes-then behind (Goes stands) serves same is goes = record { serves = serves-then old new before after (λ earlier. reached_at new.tick row) out mid now serves same; stands = λ earlier. goes.0 ∙ is earlier; refused = goes.1 }
   takes-then behind (Ends stands) serves same is goes = record { serves = serves-then old new before after (λ earlier. reached_at new.tick row) out mid now serves same; stands = λ earlier. goes.0 ∙ is earlier; refused = goes.1 }
@@ -60,7 +60,7 @@ module _ {n m e : ℕ} {K : Type 0} (stops : Bool) (old new : ModuleState n m e)
   taken-behind behind ended same is = record { serves = serves-behind old new before after (λ earlier. reached_at new.tick row) out mid now same is.serves; stands = is.stands; refused = is.refused }
 
   -- a row was taken by a printer that had been told nothing more before
-  pub takes-behind : (step : Step) → TellsNoMore out mid → TakesRow stops old new before after mid now row step → TakesRow stops old new before after out now row step
+  pub takes-behind : (step : StreamStep) → TellsNoMore out mid → TakesRow stops old new before after mid now row step → TakesRow stops old new before after out now row step
   takes-behind (Goes behind) same is = taken-behind behind false same is
   takes-behind (Ends behind) same is = taken-behind behind true same is
   takes-behind (Stops stop) same (inl is) =
@@ -88,7 +88,7 @@ module _ {n : ℕ} {K : Type 0} (written : K → Option (List ℕ)) (faults : K 
   }
 
   -- what is printed by a step behind what was printed before it
-  pub writes-behind : (mid now : Printing n K) (step : Step) → mid.prints ≡ out.prints
+  pub writes-behind : (mid now : Printing n K) (step : StreamStep) → mid.prints ≡ out.prints
       → ((before : Option (List ℕ)) (first : ℕ) → IsPrinting written faults before first out → IsPrinting written faults before first mid)
       → Writes written faults mid now step → Writes written faults out now step
   writes-behind mid now step prints printing writes = record {
@@ -97,17 +97,6 @@ module _ {n : ℕ} {K : Type 0} (written : K → Option (List ℕ)) (faults : K 
     whole = λ is before first h. writes.whole is before first (printing before first h);
     part = λ is before first h. writes.part is before first (printing before first h);
   }
-
-  -- it was asked behind what a printer had printed by then, and only where the bytes that had arrived decide of no row
-  pub asks-behind : {S : Type 0} (source rest : S) (from : Standing) (by : Printing n K) → TellsNoMore out by
-      → (decides from.state 0 from.arrived.bytes ≡ true → rest ≡ source)
-      → ((before : Option (List ℕ)) (first : ℕ) → IsPrinting written faults before first out → Appends before (written by.sink) (text_told by))
-      → AsksBehind written faults source rest from out
-  asks-behind source rest from by same prompt is = either (decides from.state 0 from.arrived.bytes) refl
-    where
-      either : (decided : Bool) → decides from.state 0 from.arrived.bytes ≡ decided → AsksBehind written faults source rest from out
-      either true on = inl (prompt on)
-      either false off = inr (off, by, same, is)
 
 -- of what a source gave, rows were served, and a step follows
 module _ {n m e : ℕ} {stops : Bool} (raw : RawShape) (seed : ℕ) {S K : Type 0} (left : S → Option (List ℕ)) (taken faults : S → ℕ) (first source rest : S)

@@ -19,7 +19,7 @@ use Rattle.row_stream.specs.Serving.{ComeByBanks, ComeByTurns, HasServed, HaveCo
 use Rattle.row_stream.proofs.{Growing.none, Order.{ToldSo, are-told, come-by-banks, told-both}}
 
 -- histories that are the same replay the same
-replays-same : {n m e : ℕ} (h k : ℕ → List (TimedEvent n m)) (asked : List (AskedRow n)) (module_ : ModuleState n m e) (array : ArrayState n m) (results : List (Outcome n))
+pub replays-same : {n m e : ℕ} (h k : ℕ → List (TimedEvent n m)) (asked : List (AskedRow n)) (module_ : ModuleState n m e) (array : ArrayState n m) (results : List (Outcome n))
     → ((bank : ℕ) → h bank ≡ k bank) → Replays h asked module_ array results → Replays k asked module_ array results
 replays-same {n} {m} h k asked module_ array results same f = record {
   size = f.size;
@@ -47,7 +47,7 @@ module _ {n m e : ℕ} (raw : RawShape) (seed : ℕ) (asked : List (Asked n)) (m
     pub counted : places2 ≡ places
 
   -- so they came to a tick
-  have-come : (tick : ℕ) (h : ℕ → List (TimedEvent n m)) (new : ModuleState n m e) (after : ArrayState n m) (places2 : ℕ) (told2 : List (Told n)) (outcomes : List (ℕ × Outcome n))
+  pub have-come : (tick : ℕ) (h : ℕ → List (TimedEvent n m)) (new : ModuleState n m e) (after : ArrayState n m) (places2 : ℕ) (told2 : List (Told n)) (outcomes : List (ℕ × Outcome n))
       → places2 ≡ places → told2 ≡ told ++ became outcomes → HasServed raw seed (events_in asked) h new after (table_of places2 told2)
       → ((bank : ℕ) → bank < new.shape.banks → IsSomeAnd (slice_get new.banks bank) (IsAtTick tick)) → HaveCome e raw seed tick asked h new after (told ++ became outcomes)
   have-come tick h new after places2 told2 outcomes counted tells served settled = record {

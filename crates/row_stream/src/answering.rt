@@ -11,7 +11,7 @@ ghost use Rattle.row_stream.specs.Serving.{MayServe, ServesOn};
 use bank_timing::clocked::Timed;
 use pcm_io::Sink;
 use pcm_module::Module;
-use row_printer::{Backlog, Mark, Newest, RowPrinter};
+use row_printer::{Backlog, Mark, PeekedLine, RowPrinter};
 use trace_stream::Peek;
 use wear_totals::TellsWear;
 
@@ -87,7 +87,7 @@ pub fn serve_peek<
     pcm.settle(array, peek.tick, out);
     out.tells_once();
     let bytes = pcm.newest(array, peek.line);
-    let newest = Newest {
+    let newest = PeekedLine {
         line: peek.line,
         bytes,
     };

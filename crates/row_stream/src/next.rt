@@ -23,7 +23,8 @@ pub fn next_row<const B: usize, S: Source, K: Sink + Drop>(
         stream.old stream.new next) }
     ensures err { IfErr result (λ stop. HasNoNext B S.left S.taken S.faults source.old
         source.new stream.old stream.new stop) }
-    ensures waits { AsksBehind K.written K.faults source.old source.new stream.old out.old }
+    ensures waits { AsksBehind S.left S.taken K.written K.faults
+        source.old source.new stream.old out.old }
     ensures none { IfOk result (λ next. IfNone next ((before : Option (List ℕ)) (first : ℕ)
         → IsPrinting K.written K.faults before first out.old
         → Appends before (K.written out.new.sink) (text_told out.new))) }

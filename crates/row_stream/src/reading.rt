@@ -15,7 +15,7 @@ ghost use Rattle.row_stream.specs.Sourcing.{HasStopped, IsRead, IsReadTo};
 ghost use Rattle.row_stream.specs.Waiting.{IsTextOf, TellsFirst};
 
 use crate::stepping::take_next;
-use crate::stop::{Behind, Step, Stop};
+use crate::stop::{Behind, Stop, StreamStep};
 use pcm_io::{Sink, Source};
 use pcm_module::Module;
 use row_printer::RowPrinter;
@@ -61,7 +61,7 @@ pub fn serve_source<
         (A.state array.new) out.new.rows out.new.told out.new.prints out.new.snapshots)
         × HasStopped (total_of raw) S.left S.taken S.faults source.old source.new asked stop
         × GoesAsFar stop stops asked (told_so_far had)) }
-    // Each time that the source was asked, the rows that had come whole were served, and all that was told was written.
+    // Before each request to the source all rows that had come whole were served, and all that was told was written; it gave a piece at most.
     ensures waits { (raw : RawShape) (seed : ℕ)
         → IsServing raw seed [] pcm.old (A.state array.old) out.old.rows out.old.told out.old.prints
         out.old.snapshots
@@ -93,9 +93,9 @@ pub fn serve_source<
     let mut behind = Behind::Nothing;
     'rows: for _ in 0..u64::MAX {
         match take_next(pcm, array, &mut stream, source, stops, behind, out) {
-            Step::Goes(stands) => behind = stands,
-            Step::Ends(last) => return Ok(last),
-            Step::Stops(stop) => return Err(stop),
+            StreamStep::Goes(stands) => behind = stands,
+            StreamStep::Ends(last) => return Ok(last),
+            StreamStep::Stops(stop) => return Err(stop),
         }
     }
     let Ok(()) = out.flush() else {

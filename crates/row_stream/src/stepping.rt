@@ -16,7 +16,7 @@ ghost use Rattle.row_stream.specs.Stepping.{AsksBehind, GoesOn, Steps, TakesRow,
 
 use crate::next::next_row;
 use crate::serving::{serve, serve_event};
-use crate::stop::{Behind, Step, Stop, behind_asked, behind_event, stops_behind};
+use crate::stop::{Behind, Stop, StreamStep, behind_asked, behind_event, stops_behind};
 use pcm_io::{Sink, Source};
 use pcm_module::Module;
 use row_printer::RowPrinter;
@@ -41,7 +41,7 @@ pub fn take_next<
     stops: bool,
     behind: Behind,
     out: &mut RowPrinter<B, K>,
-) -> Step
+) -> StreamStep
     requires layout { IsLayout B M E }
     requires lines { stream.old.lines ≡ total_of pcm.old.shape }
     requires rows { stream.old.rows ≡ out.old.rows }
@@ -51,7 +51,8 @@ pub fn take_next<
         (A.state array.new) source.old source.new stream.old stream.new out.old out.new
         behind result }
     ensures writes { Writes K.written K.faults out.old out.new result }
-    ensures waits { AsksBehind K.written K.faults source.old source.new stream.old out.old }
+    ensures waits { AsksBehind S.left S.taken K.written K.faults
+        source.old source.new stream.old out.old }
     ensures wear { (A.state array.new).wear ≡ (A.state array.old).wear }
     ensures never_falls { S.faults source.old ≤ S.faults source.new }
 {
@@ -78,7 +79,7 @@ fn take_given<
     stops: bool,
     behind: Behind,
     out: &mut RowPrinter<B, K>,
-) -> Step
+) -> StreamStep
     requires layout { IsLayout B M E }
     requires lines { stream.old.lines ≡ total_of pcm.old.shape }
     requires rows { stream.old.rows ≡ out.old.rows }
@@ -88,14 +89,15 @@ fn take_given<
         (A.state array.new) source.old source.new stream.old stream.new out.old out.new
         behind result }
     ensures writes { Writes K.written K.faults out.old out.new result }
-    ensures waits { AsksBehind K.written K.faults source.old source.new stream.old out.old }
+    ensures waits { AsksBehind S.left S.taken K.written K.faults
+        source.old source.new stream.old out.old }
     ensures wear { (A.state array.new).wear ≡ (A.state array.old).wear }
     ensures never_falls { S.faults source.old ≤ S.faults source.new }
 {
     match next_row(stream, source, out) {
         Ok(Some(asked)) => take_row(pcm, array, &asked, stops, out),
-        Ok(None) => Step::Ends(behind),
-        Err(stop) => Step::Stops(stop),
+        Ok(None) => StreamStep::Ends(behind),
+        Err(stop) => StreamStep::Stops(stop),
     }
 }
 
@@ -112,7 +114,7 @@ fn take_event<
     event: &Event<B>,
     stops: bool,
     out: &mut RowPrinter<B, K>,
-) -> Step
+) -> StreamStep
     requires layout { IsLayout B M E }
     requires event { IsEventFor (total_of pcm.old.shape) 0 event.now }
     requires few { out.old.rows < 4294967295 }
@@ -123,7 +125,7 @@ fn take_event<
     ensures wear { (A.state array.new).wear ≡ (A.state array.old).wear }
 {
     if event.tick < pcm.tick() {
-        return Step::Stops(stop_late(out));
+        return StreamStep::Stops(stop_late(out));
     }
     serve_event(pcm, array, event, out);
     go_on(stops, behind_event(&event.op), out)
@@ -136,7 +138,7 @@ fn take_row<const B: usize, const M: usize, const E: usize, A: TellsWear<B, M, E
     asked: &Asked<B>,
     stops: bool,
     out: &mut RowPrinter<B, K>,
-) -> Step
+) -> StreamStep
     requires layout { IsLayout B M E }
     requires asked { IsAskedFor (total_of pcm.old.shape) 0 asked.now }
     requires named { NamesRow out.old.rows asked.now }
@@ -148,7 +150,7 @@ fn take_row<const B: usize, const M: usize, const E: usize, A: TellsWear<B, M, E
     ensures wear { (A.state array.new).wear ≡ (A.state array.old).wear }
 {
     if asked.named() < pcm.tick() {
-        return Step::Stops(stop_late(out));
+        return StreamStep::Stops(stop_late(out));
     }
     serve(pcm, array, asked, out);
     go_on(stops, behind_asked(asked), out)
@@ -159,18 +161,18 @@ fn go_on<const B: usize, K: Sink + Drop>(
     stops: bool,
     behind: Behind,
     out: &mut RowPrinter<B, K>,
-) -> Step
+) -> StreamStep
     ensures goes { GoesOn behind (stops && any_refused (table_told out.new)) result }
     ensures told { TellsNoMore out.old out.new }
     ensures writes { Writes K.written K.faults out.old out.new result }
 {
     if stops_behind(stops, out) {
         let Ok(()) = out.flush() else {
-            return Step::Stops(Stop::Output);
+            return StreamStep::Stops(Stop::Output);
         };
-        return Step::Ends(behind);
+        return StreamStep::Ends(behind);
     }
-    Step::Goes(behind)
+    StreamStep::Goes(behind)
 }
 
 // Why a stream stops at a row that comes too late: all that is known is written before.

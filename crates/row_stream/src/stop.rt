@@ -36,7 +36,7 @@ pub enum Behind {
 
 /// What one step of a stream comes to.
 #[derive(Clone, Copy)]
-pub enum Step {
+pub enum StreamStep {
     /// A row was served, behind which the module stands so, and the stream goes on.
     Goes(Behind),
     /// The stream ends, and the module stands so: no row is left, or one was refused at which it is to stop.

@@ -4,7 +4,7 @@ use Rattle.std.{specs.List.{count_by, list_any}, proofs.lemmas.List.length-take,
 use Rattle.std.proofs.{lemmas.List.Sums.{count_by_more_yes, count_by_more_no}, lemmas.Option.get_or_from_slice_get}
 use Rattle.result_rows.specs.{Table.outcome_at, declared.Outcome.Outcome}
 use Rattle.row_rules.specs.Answers.{is_stored, is_merged, is_queued, is_full, is_worn, is_answered, is_forwarded, is_busy, is_lost}
-use Rattle.run_text.{specs.Counting.{is_cut, counts_of, with_one}, specs.Laws.rows_counted, specs.declared.counts.Counts.Counts, proofs.Adding.all-counted}
+use Rattle.run_text.{specs.Counting.{is_cut, counts_of, with_one}, specs.Laws.rows_counted, specs.declared.counts.OutcomeCounts.OutcomeCounts, proofs.Adding.all-counted}
 
 -- the outcome behind so many rows
 outcome-behind : {X : Type 0} (xs : List X) (before : ℕ) (x : X) → outcome_at xs (before + 1) ≡ Some x → get_or xs before x ≡ x
@@ -22,7 +22,7 @@ count-more p xs before x within at = by (p x) (ap p (sym (outcome-behind xs befo
     by false is = count_by_more_no p xs before x within (sym is)
 
 -- the counts with one more row
-pub counts-more : {n : ℕ} (old : Counts) (xs : List (Outcome n)) (before : ℕ) (x : Outcome n) → before < length xs → outcome_at xs (before + 1) ≡ Some x
+pub counts-more : {n : ℕ} (old : OutcomeCounts) (xs : List (Outcome n)) (before : ℕ) (x : Outcome n) → before < length xs → outcome_at xs (before + 1) ≡ Some x
     → old ≡ counts_of (take before xs) → with_one old x ≡ counts_of (take (before + 1) xs)
 counts-more old xs before x within at is =
     ap (λ counts. with_one counts x) is
@@ -40,7 +40,7 @@ counts-more old xs before x within at is =
     ) refl
 
 -- no more rows are counted than there are before a row
-pub counted-before : {n : ℕ} (counts : Counts) (xs : List (Outcome n)) (before : ℕ) → counts ≡ counts_of (take before xs) → rows_counted counts ≤ before
+pub counted-before : {n : ℕ} (counts : OutcomeCounts) (xs : List (Outcome n)) (before : ℕ) → counts ≡ counts_of (take before xs) → rows_counted counts ≤ before
 counted-before counts xs before is =
     let same : rows_counted counts ≡ rows_counted (counts_of (take before xs)) = ap rows_counted is in
     omega (arith, same, all-counted (take before xs), length-take before xs)

@@ -3,7 +3,7 @@ use Rattle.std.specs.Prelude.{ℕ, ◌+◌, Bool, true, false, cond, List, count
 use Rattle.result_rows.specs.declared.Outcome.{Outcome}
 use Rattle.result_rows.specs.declared.Outcome.TheVariants as out
 use Rattle.row_rules.specs.Answers.{is_stored, is_merged, is_queued, is_full, is_worn, is_answered, is_forwarded, is_busy, is_lost}
-use Rattle.run_text.specs.declared.counts.Counts.{Counts}
+use Rattle.run_text.specs.declared.counts.OutcomeCounts.{OutcomeCounts}
 
 module _ {n : ℕ} where
   -- the outcome of a cut
@@ -12,7 +12,7 @@ module _ {n : ℕ} where
   is_cut _ = false
 
   -- for each outcome, how many of these have it; one that isn't set is counted nowhere
-  abbrev pub counts_of : List (Outcome n) → Counts
+  abbrev pub counts_of : List (Outcome n) → OutcomeCounts
   counts_of outcomes = record {
     stored = count_by is_stored outcomes;
     merged = count_by is_merged outcomes;
@@ -27,7 +27,7 @@ module _ {n : ℕ} where
   }
 
   -- the counts with one outcome more
-  abbrev pub with_one : Counts → Outcome n → Counts
+  abbrev pub with_one : OutcomeCounts → Outcome n → OutcomeCounts
   with_one counts outcome = record {
     stored = cond (is_stored outcome) (counts.stored + 1) counts.stored;
     merged = cond (is_merged outcome) (counts.merged + 1) counts.merged;

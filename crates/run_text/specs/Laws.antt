@@ -2,7 +2,7 @@
 use Rattle.std.specs.{List.list_any, Prelude.{ℕ, ◌≡◌, ◌+◌, Bool, true, false, List, length, nat_lt}}
 use Rattle.result_rows.specs.declared.Outcome.{Outcome}
 use Rattle.result_rows.specs.declared.Outcome.TheVariants as out
-use Rattle.run_text.specs.{Counting.counts_of, Shortfall.any_short, declared.counts.Counts.Counts}
+use Rattle.run_text.specs.{Counting.counts_of, Shortfall.any_short, declared.counts.OutcomeCounts.OutcomeCounts}
 
 -- a row that was never set
 abbrev pub is_unset : {n : ℕ} → Outcome n → Bool
@@ -10,11 +10,11 @@ is_unset out.Unset = true
 is_unset _ = false
 
 -- all rows that are counted
-abbrev pub rows_counted : Counts → ℕ
+abbrev pub rows_counted : OutcomeCounts → ℕ
 rows_counted c = c.stored + c.merged + c.queued + c.full + c.worn + c.read + c.forwarded + c.busy + c.lost + c.cut
 
 -- the rows that are counted as refused, lost or still in the queue
-abbrev pub rows_short : Counts → ℕ
+abbrev pub rows_short : OutcomeCounts → ℕ
 rows_short c = c.queued + c.full + c.worn + c.busy + c.lost
 
 -- where every row is set, the ten counts add up to the rows

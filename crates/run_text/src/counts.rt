@@ -7,7 +7,7 @@ use result_rows::{Outcome, Results};
 
 /// The number of rows that had each outcome.
 #[derive(Clone, Copy, PartialEq, Eq)]
-pub struct Counts {
+pub struct OutcomeCounts {
     pub stored: u32,
     pub merged: u32,
     pub queued: u32,
@@ -20,9 +20,9 @@ pub struct Counts {
     pub cut: u32,
 }
 
-impl Counts {
+impl OutcomeCounts {
     /// Nothing is counted yet.
-    pub fn none() -> Counts
+    pub fn none() -> OutcomeCounts
         ensures { result ≡ record {
           stored = 0;
           merged = 0;
@@ -36,7 +36,7 @@ impl Counts {
           cut = 0;
         } }
     {
-        Counts {
+        OutcomeCounts {
             stored: 0,
             merged: 0,
             queued: 0,
@@ -51,11 +51,11 @@ impl Counts {
     }
 
     /// The counts of a table. A row that isn't set is counted nowhere.
-    pub fn of<const B: usize>(results: &Results<B>) -> Counts
+    pub fn of<const B: usize>(results: &Results<B>) -> OutcomeCounts
         requires { B ≤ 128 }
         ensures { result ≡ counts_of results.now }
     {
-        let mut counts = Counts::none();
+        let mut counts = OutcomeCounts::none();
         for before in 0..results.rows() {
             counts.count(results.get(before + 1));
         }

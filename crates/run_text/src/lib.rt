@@ -13,7 +13,7 @@ mod shortfall;
 mod summary;
 mod wear;
 
-pub use counts::Counts;
+pub use counts::OutcomeCounts;
 pub use laws::{each_row_is_counted_once, short_rows_are_counted};
 pub use pulses::{add_pulses, sum_pulses};
 pub use results::print_results;

@@ -7,7 +7,7 @@ ghost use Rattle.pcm_io.specs.Reserved.{appended, reserved, room_in};
 ghost use Rattle.run_text.specs.Counting.{counts_of};
 ghost use Rattle.run_text.specs.SummaryText.{line_text, summary_text};
 
-use crate::counts::Counts;
+use crate::counts::OutcomeCounts;
 use crate::room::print_rest;
 use pcm_io::{Sink, Text, WriteFault};
 use result_rows::Results;
@@ -15,7 +15,7 @@ use text_printer::TEXT_ROOM;
 
 /// Appends the summary of a run: its rows and how many had each outcome, the spares in use, and the pulses of all array
 /// lines.
-pub fn print_summary(rows: u32, counts: &Counts, retired: u32, pulses: u64, text: &mut Text)
+pub fn print_summary(rows: u32, counts: &OutcomeCounts, retired: u32, pulses: u64, text: &mut Text)
     requires room { 512 ≤ room_in text.old }
     ensures after { text.new ≡ appended text.old (summary_text rows counts.now retired pulses) }
     ensures room { room_in text.old ≤ room_in text.new + 512 }
@@ -66,7 +66,7 @@ pub fn print_counts<const B: usize, K: Sink>(
     ensures fault { OnErr result (Rose (K.faults out.old) (K.faults out.new)) }
     ensures never_falls { K.faults out.old ≤ K.faults out.new }
 {
-    let counts = Counts::of(results);
+    let counts = OutcomeCounts::of(results);
     print_summary(results.rows(), &counts, retired, pulses, text);
     print_rest(text, out)
 }

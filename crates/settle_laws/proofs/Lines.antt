@@ -3,7 +3,7 @@ use Rattle.std.proofs.Common.{◌≡◌, ℕ, zero, suc, ◌+◌, List, [], ◌�
 use Rattle.cell_rows.specs.Device.{ArrayState}
 use Rattle.result_rows.specs.declared.Outcome.{Outcome}
 use Rattle.pcm_module.specs.State.{ModuleState, bank_at, stand_now}
-use Rattle.row_printer.specs.{Telling.became, declared.told.Newest.Newest, declared.told.Told.Told, declared.told.Told.TheVariants.{Became, Bank, Looked, Peeked, Settled}}
+use Rattle.row_printer.specs.{Telling.became, declared.told.PeekedLine.PeekedLine, declared.told.Told.Told, declared.told.Told.TheVariants.{Became, Bank, Looked, Peeked, Settled}}
 use Rattle.trace_stream.specs.{declared.asked.Asked.Asked, declared.asked.Asked.TheVariants.{Happens, Settle, Query, Look, Peek, Until, UntilAny}}
 use Rattle.row_stream.specs.{Answering.{backlog_of, banks_told}, Looking.wear_of, Serving.lines_of}
 use Rattle.settle_laws.specs.Settles.{settled_at, settles_in, told_up_to}
@@ -85,7 +85,7 @@ module _ {n : ℕ} where
         record { front = Looked at (wear_of e array) ∷ []; whole = ap (λ (t : ℕ). Looked at (wear_of e array) ∷ Settled t ∷ []) same; none = refl }
     ends-settled (Peek peek) tick module_ array is =
         let same : peek.tick ≡ tick = cc in
-        let newest : Newest n = record { line = peek.line; bytes = stand_now module_ array peek.line } in
+        let newest : PeekedLine n = record { line = peek.line; bytes = stand_now module_ array peek.line } in
         record { front = Peeked peek.tick newest ∷ []; whole = ap (λ (t : ℕ). Peeked peek.tick newest ∷ Settled t ∷ []) same; none = refl }
     ends-settled (Until until) tick module_ array is =
         let same : until.reached ≡ tick = cc in

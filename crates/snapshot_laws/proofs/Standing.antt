@@ -14,7 +14,7 @@ use Rattle.right_runs.specs.{Ends.BankEnd, Roles.used_spares}
 use Rattle.run_laws.specs.Finishing.{IsFinishedTo}
 use Rattle.module_laws.specs.Asking.{Asked as AskedRow}
 use Rattle.pcm_module.specs.{Asking.asked_for, Replaying.{Replays, ReplaysIn}, Roles.{spares_used, spares_used_in}, State.{AreEndsOf, ModuleState, bank_at, first_bank}}
-use Rattle.run_text.specs.{Counting.counts_of, Pulses.{pulses_in_all, pulses_of_first}, declared.counts.Counts.Counts}
+use Rattle.run_text.specs.{Counting.counts_of, Pulses.{pulses_in_all, pulses_of_first}, declared.counts.OutcomeCounts.OutcomeCounts}
 use Rattle.row_printer.specs.{Printing.table_of, Telling.{outcomes_in, recorded, TellsOnce}, declared.snapshot.Snapshot.Snapshot, declared.told.ArrayWear.ArrayWear}
 use Rattle.row_printer.specs.{declared.told.Told.Told, declared.told.Told.TheVariants.{Became, Bank, Looked, Peeked, Settled}}
 use Rattle.wear_totals.specs.Wear.{mean_of, wear_of}
@@ -103,7 +103,7 @@ snapshot-same : (one two : Snapshot) → one.rows ≡ two.rows → one.tick ≡ 
 snapshot-same one two rows tick counts retired wear =
     ap (λ (x : ℕ). let s : Snapshot = record { rows = x; tick = one.tick; counts = one.counts; retired = one.retired; wear = one.wear } in s) rows
     ∙ ap (λ (x : ℕ). let s : Snapshot = record { rows = two.rows; tick = x; counts = one.counts; retired = one.retired; wear = one.wear } in s) tick
-    ∙ ap (λ (x : Counts). let s : Snapshot = record { rows = two.rows; tick = two.tick; counts = x; retired = one.retired; wear = one.wear } in s) counts
+    ∙ ap (λ (x : OutcomeCounts). let s : Snapshot = record { rows = two.rows; tick = two.tick; counts = x; retired = one.retired; wear = one.wear } in s) counts
     ∙ ap (λ (x : ℕ). let s : Snapshot = record { rows = two.rows; tick = two.tick; counts = two.counts; retired = x; wear = one.wear } in s) retired
     ∙ ap (λ (x : ArrayWear). let s : Snapshot = record { rows = two.rows; tick = two.tick; counts = two.counts; retired = two.retired; wear = x } in s) wear
 

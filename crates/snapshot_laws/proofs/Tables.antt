@@ -5,13 +5,13 @@ use Rattle.masked_bytes.proofs.{Counting.count-append, Truth.{neither_first, nei
 use Rattle.result_rows.specs.{Table.{outcome_at, with_outcome}, declared.Outcome.Outcome}
 use Rattle.result_rows.specs.declared.Outcome.TheVariants as out
 use Rattle.row_rules.specs.Answers.{is_stored, is_merged, is_queued, is_full, is_worn, is_answered, is_forwarded, is_busy, is_lost}
-use Rattle.run_text.specs.{Counting.{is_cut, counts_of, with_one}, declared.counts.Counts.Counts}
+use Rattle.run_text.specs.{Counting.{is_cut, counts_of, with_one}, declared.counts.OutcomeCounts.OutcomeCounts}
 use Rattle.row_printer.{specs.Telling.{recorded, tells, TellsOnce}, proofs.Counted.counts-more}
 use Rattle.snapshot_laws.specs.Rising.{CountsRise}
 
 -- ---- counts
 
-pub counts-stand : (one : Counts) → CountsRise one one
+pub counts-stand : (one : OutcomeCounts) → CountsRise one one
 counts-stand one = record {
   stored = omega arith;
   merged = omega arith;
@@ -25,7 +25,7 @@ counts-stand one = record {
   cut = omega arith;
 }
 
-pub counts-on : (one two three : Counts) → CountsRise one two → CountsRise two three → CountsRise one three
+pub counts-on : (one two three : OutcomeCounts) → CountsRise one two → CountsRise two three → CountsRise one three
 counts-on one two three first second = record {
   stored = omega (arith, first.stored, second.stored);
   merged = omega (arith, first.merged, second.merged);
@@ -43,7 +43,7 @@ up : (b : Bool) (count : ℕ) → count ≤ cond b (count + 1) count
 up true count = omega arith
 up false count = omega arith
 
-one-up : {n : ℕ} (counts : Counts) (o : Outcome n) → CountsRise counts (with_one counts o)
+one-up : {n : ℕ} (counts : OutcomeCounts) (o : Outcome n) → CountsRise counts (with_one counts o)
 one-up counts o = record {
   stored = up (is_stored o) counts.stored;
   merged = up (is_merged o) counts.merged;
@@ -133,7 +133,7 @@ module _ {n : ℕ} where
       by None none is = subst (λ (t : List (Outcome n)). CountsRise (counts_of table) (counts_of t)) (sym (set-none table (row - 1) o none)) (counts-stand (counts_of table))
       by (Some was) some is =
           let unset : outcome_at table row ≡ Some out.Unset = some ∙ ap Some is in
-          subst (λ (c : Counts). CountsRise (counts_of table) c) (sym (counts-more table row o unset)) (one-up (counts_of table) o)
+          subst (λ (c : OutcomeCounts). CountsRise (counts_of table) c) (sym (counts-more table row o unset)) (one-up (counts_of table) o)
 
   -- a row that is told is one of at least 1
   told-above : (most : ℕ) (told : List (ℕ × Outcome n)) (row : ℕ) → TellsOnce most told → tells told row ≡ true → 1 ≤ row

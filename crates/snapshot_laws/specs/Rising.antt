@@ -4,13 +4,13 @@ use Rattle.cell_rows.specs.Device.{ArrayState}
 use Rattle.bank_model.specs.Timing.{TimedEvent}
 use Rattle.module_shape.specs.declared.raw.RawShape.{RawShape}
 use Rattle.pcm_module.specs.State.{ModuleState}
-use Rattle.run_text.specs.declared.counts.Counts.{Counts}
+use Rattle.run_text.specs.declared.counts.OutcomeCounts.{OutcomeCounts}
 use Rattle.row_printer.specs.{Telling.{outcomes_in, TellsOnce}, declared.snapshot.Snapshot.Snapshot, declared.told.Shown.Shown, declared.told.Told.Told}
 use Rattle.trace_stream.specs.declared.asked.Asked.{Asked}
 use Rattle.row_stream.specs.{Ending.EndsShowing, Serving.{SnapsAlong, TellsAlong}}
 
 -- of each outcome there are at least as many
-pub record CountsRise (one later : Counts) : Type 0 where
+pub record CountsRise (one later : OutcomeCounts) : Type 0 where
   pub stored : one.stored ≤ later.stored
   pub merged : one.merged ≤ later.merged
   pub queued : one.queued ≤ later.queued

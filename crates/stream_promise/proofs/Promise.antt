@@ -19,8 +19,8 @@ use Rattle.row_stream.specs.{Asking.{BeginsWith, stays_off, tick_reached, with_c
 use Rattle.row_stream.specs.Sourcing.{IsRead, IsReadTo}
 use Rattle.stream_top.specs.{Calls.LentSource, Promises.{Breaks, BreaksOn, Call, Does, DoesOn, KeepsPromises, Stops as StopsCall, StopsOn}}
 use Rattle.stream_top.specs.Streams.{BeginsInPart, BreaksOff, ComeFrom, GoesAsFarAs, IsServed, IsServedInPart, Streams, StreamsInPart, StreamsUpTo, done_by, is_off, shown_by}
-use Rattle.stream_top.specs.{Streams.{stops_at_refusal, told_in_part}, Waiting.{IsJobText, WaitsAt, WaitsFor, WaitsOn}, declared.done.Done.Done, declared.fault.Fault.Fault}
-use Rattle.stream_top.{specs.declared.fault.Fault.TheVariants.{Usage, Trace, Read, Write, TooLong, NoMemory}, proofs.Waiting.tells-so}
+use Rattle.stream_top.specs.{Streams.{stops_at_refusal, told_in_part}, Waiting.{IsJobText, WaitsAt, WaitsFor, WaitsOn}, declared.done.StreamDone.StreamDone, declared.fault.StreamRunFault.StreamRunFault}
+use Rattle.stream_top.{specs.declared.fault.StreamRunFault.TheVariants.{Usage, Trace, Read, Write, TooLong, NoMemory}, proofs.Waiting.tells-so}
 use Rattle.moment_laws.specs.Moments.{MomentLaw}
 use Rattle.settle_laws.specs.{Marks.{EndedMarkLaw, MarkLaw}, Streams.{BegunStreamLaw, WholeStreamLaw}, Turns.{EndedTurnLaw, TurnLaw}}
 use Rattle.snapshot_laws.specs.Rising.{EndedLaw, SoFarLaw}
@@ -58,7 +58,7 @@ module _ {S : Type 0} (laws : StreamLaws S) (n m e : ℕ) (job : StreamJob) (sou
           (BeginsWith asked (all_events (drawn_for job.shape job.seed job.banks (generated n job.seed (total_of job.shape) mix)))) is.1,
     )
 
-    goes-on : (fault : Fault) (asked : List (Asked n)) (telling : Telling n m e job.shape job.seed asked) → GoesAsFarAs n m e job source fault asked telling
+    goes-on : (fault : StreamRunFault) (asked : List (Asked n)) (telling : Telling n m e job.shape job.seed asked) → GoesAsFarAs n m e job source fault asked telling
         → GoesOnTo n m e job source fault asked (rows-of e job.shape job.seed laws.moment shape asked telling)
     goes-on Usage asked telling is = without-refusal e job.shape job.seed laws.moment shape (stops_at_refusal job.until) asked telling is
     goes-on (Trace f) asked telling is = without-refusal e job.shape job.seed laws.moment shape (stops_at_refusal job.until) asked telling is
@@ -156,7 +156,7 @@ module _ {S : Type 0} (laws : StreamLaws S) (n m e : ℕ) (job : StreamJob) (sou
         }
 
     module _ (out : SinkChange) where
-      streams : (changes : ℕ → Option (ℕ → ℕ)) (done : Done) → Streams n m e job source out array changes done → StreamsByRows n m e job source out array changes done
+      streams : (changes : ℕ → Option (ℕ → ℕ)) (done : StreamDone) → Streams n m e job source out array changes done → StreamsByRows n m e job source out array changes done
       streams changes done is =
           let asked : List (Asked n) = is.served.asked in
           let telling = told_along is.served.ended in
@@ -173,7 +173,7 @@ module _ {S : Type 0} (laws : StreamLaws S) (n m e : ℕ) (job : StreamJob) (sou
                 (cut-same e job.shape job.seed laws.moment is.served.lawful.shape (is_off job.end) asked telling);
           }
 
-      stops : (fault : Fault) → StreamsUpTo n m e job source out array fault → StopsByRows n m e job source out array fault
+      stops : (fault : StreamRunFault) → StreamsUpTo n m e job source out array fault → StopsByRows n m e job source out array fault
       stops fault is = record {
         asked = is.asked;
         told = is.told;
@@ -216,7 +216,7 @@ module _ {S : Type 0} (laws : StreamLaws S) (n m e : ℕ) (job : StreamJob) (sou
 -- ---- a call
 
 module _ {A V S K : Type 0} (laws : StreamLaws S) (call : Call A V S K) where
-  does : (asked : Result StreamJob Refusal) (done : Done) → Does call asked done → DoesByRows call asked done
+  does : (asked : Result StreamJob Refusal) (done : StreamDone) → Does call asked done → DoesByRows call asked done
   does (Err e) done is = absurd is
   does (Ok job) done is = on job.line is
     where
@@ -232,7 +232,7 @@ module _ {A V S K : Type 0} (laws : StreamLaws S) (call : Call A V S K) where
       on Bytes64 is = breaks laws 64 8 6 job call.source call.array.seen.0 call.out.seen call.array.seen.1 is
       on Bytes128 is = breaks laws 128 16 8 job call.source call.wide.seen.0 call.out.seen call.wide.seen.1 is
 
-  stops-at : (asked : Result StreamJob Refusal) (fault : Fault) → StopsCall call asked fault → StopByRows call asked fault
+  stops-at : (asked : Result StreamJob Refusal) (fault : StreamRunFault) → StopsCall call asked fault → StopByRows call asked fault
   stops-at (Err e) fault is = is
   stops-at (Ok job) fault (inl is) = inl (on job.line is)
     where

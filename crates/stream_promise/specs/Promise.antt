@@ -25,7 +25,7 @@ use Rattle.trace_stream.specs.{Asked.events_in, Laws.all_events, declared.asked.
 use Rattle.row_stream.specs.{Asking.{BeginsWith, stays_off, tick_reached, with_cut}, Laws.TellsEach, Looking.wear_of, Serving.ComeByBanks, Sourcing.{IsRead, IsReadTo}}
 use Rattle.stream_top.specs.{Calls.LentSource, FaultLines.{fault_line, status_of}, Leaving.{IsClosing, WritesRowsOf, senses_for}}
 use Rattle.stream_top.specs.{Promises.{Call, IsAsleep, IsUnread, OthersUntouched}, Streams.{StopsBy, done_by, is_off, rows_told, shown_by, status_done, stops_at_refusal}}
-use Rattle.stream_top.specs.{declared.done.Done.Done, declared.done.Done.TheVariants.Short, declared.fault.Fault.Fault, declared.fault.Fault.TheVariants.{Usage, Write, NoMemory}}
+use Rattle.stream_top.specs.{declared.done.StreamDone.StreamDone, declared.done.StreamDone.TheVariants.Short, declared.fault.StreamRunFault.StreamRunFault, declared.fault.StreamRunFault.TheVariants.{Usage, Write, NoMemory}}
 use Rattle.moment_laws.specs.Moments.{rows_now}
 use Rattle.settle_laws.specs.Settles.{SettlesForGood, SettlesSoFar}
 use Rattle.snapshot_laws.specs.Rising.{NeverFall}
@@ -47,7 +47,7 @@ module _ {S : Type 0} (n m e : ℕ) (job : StreamJob) (source : LentSource S) wh
       (BeginsWith asked (all_events (drawn_for job.shape job.seed job.banks (generated n job.seed (total_of job.shape) mix))))
 
   -- and where a fault ends a stream that is to stop at a refusal, none was told; but the last row may have been where the output failed
-  abbrev pub GoesOnTo : Fault → (asked : List (Asked n)) → RowsTold job.shape job.seed asked → Type 0
+  abbrev pub GoesOnTo : StreamRunFault → (asked : List (Asked n)) → RowsTold job.shape job.seed asked → Type 0
   GoesOnTo Write asked it = WithoutRefusalBefore job.shape job.seed (stops_at_refusal job.until) asked it
   GoesOnTo _ asked it = WithoutRefusal job.shape job.seed (stops_at_refusal job.until) asked it
 
@@ -125,7 +125,7 @@ module _ {S : Type 0} (n m e : ℕ) (job : StreamJob) (source : LentSource S) wh
   module _ (out : SinkChange) where
     -- it was served to its end, and exactly what was told was written, and then the text of the end, for which each line was sensed where it is an
     -- image, and else none; whether a row fell short says how it was done
-    pub record StreamsByRows (array : ArrayState n m) (changes : ℕ → Option (ℕ → ℕ)) (done : Done) : Type 0 where
+    pub record StreamsByRows (array : ArrayState n m) (changes : ℕ → Option (ℕ → ℕ)) (done : StreamDone) : Type 0 where
       pub told : List (Told n)
       pub served : IsServedByRows array told
       pub text : List ℕ
@@ -136,7 +136,7 @@ module _ {S : Type 0} (n m e : ℕ) (job : StreamJob) (source : LentSource S) wh
           done ≡ done_by (stops_at_refusal job.until && is_refusal_told job.shape job.seed served.asked (before_cut job.shape job.seed (is_off job.end) served.asked served.along)) (table_of served.places told)
 
     -- it stopped at this fault; exactly what was known by then was written
-    pub record StopsByRows (array : ArrayState n m) (fault : Fault) : Type 0 where
+    pub record StopsByRows (array : ArrayState n m) (fault : StreamRunFault) : Type 0 where
       pub asked : List (Asked n)
       pub told : List (Told n)
       pub served : IsServedInPartByRows array asked told
@@ -172,11 +172,11 @@ module _ {S : Type 0} (n m e : ℕ) (job : StreamJob) (source : LentSource S) wh
 -- a call of the program
 module _ {A V S K : Type 0} (call : Call A V S K) where
   -- what a job does, on the array of its lines
-  abbrev pub DoesOnRows : StreamJob → Done → LineSize → Type 0
+  abbrev pub DoesOnRows : StreamJob → StreamDone → LineSize → Type 0
   DoesOnRows job done Bytes64 = StreamsByRows 64 8 6 job call.source call.out.seen call.array.seen.0 call.array.seen.1 done
   DoesOnRows job done Bytes128 = StreamsByRows 128 16 8 job call.source call.out.seen call.wide.seen.0 call.wide.seen.1 done
 
-  abbrev pub DoesByRows : Result StreamJob Refusal → Done → Type 0
+  abbrev pub DoesByRows : Result StreamJob Refusal → StreamDone → Type 0
   DoesByRows (Err e) done = ⊥
   DoesByRows (Ok job) done = DoesOnRows job done job.line
 
@@ -190,11 +190,11 @@ module _ {A V S K : Type 0} (call : Call A V S K) where
   BreakByRows (Ok job) = BreaksOnRows job job.line
 
   -- how far it came, and why no further: up to a row, or there was no memory to begin with
-  abbrev pub StopsOnRows : StreamJob → Fault → LineSize → Type 0
+  abbrev pub StopsOnRows : StreamJob → StreamRunFault → LineSize → Type 0
   StopsOnRows job fault Bytes64 = StopsByRows 64 8 6 job call.source call.out.seen call.array.seen.0 fault
   StopsOnRows job fault Bytes128 = StopsByRows 128 16 8 job call.source call.out.seen call.wide.seen.0 fault
 
-  abbrev pub StopByRows : Result StreamJob Refusal → Fault → Type 0
+  abbrev pub StopByRows : Result StreamJob Refusal → StreamRunFault → Type 0
   StopByRows (Err e) fault = ((fault ≡ Usage) ⊎ (fault ≡ NoMemory)) × IsAsleep call
   StopByRows (Ok job) fault = StopsOnRows job fault job.line ⊎ ((fault ≡ NoMemory) × IsAsleep call)
 
@@ -203,14 +203,14 @@ module _ {A V S K : Type 0} (call : Call A V S K) where
     pub record PromisesByRows : Type 0 where
       -- The status is 0 or 1: the stream was served to its end, and exactly what was told was written; the status is 1 exactly where some row
       -- fell short, but not where it stopped at a refused row, as it was to.
-      pub done : status ≤ status_done Short → (done : Done) × DoesByRows call.asked done × (status ≡ status_done done)
+      pub done : status ≤ status_done Short → (done : StreamDone) × DoesByRows call.asked done × (status ≡ status_done done)
       pub silent : status ≤ status_done Short → IsUntouched err
       -- It is another, but for 5: the stream stopped at a fault that has its cause, exactly what was known by then was written, and the fault is told.
       pub told : status_of Usage ≤ status → status ≢ status_of Write
-          → (fault : Fault) × StopByRows call.asked fault × (status ≡ status_of fault) × Gets err.seen (fault_line fault)
+          → (fault : StreamRunFault) × StopByRows call.asked fault × (status ≡ status_of fault) × Gets err.seen (fault_line fault)
       -- It is 5: the output failed, first bytes of what was told were written, and the fault's line was tried; or a fault couldn't be told whole.
       pub broken : status ≡ status_of Write
-          → (BreakByRows call.asked × IsTried err.seen (fault_line Write)) ⊎ ((fault : Fault) × StopByRows call.asked fault × GetsPart err.seen (fault_line fault) × SinkFails err.seen)
+          → (BreakByRows call.asked × IsTried err.seen (fault_line Write)) ⊎ ((fault : StreamRunFault) × StopByRows call.asked fault × GetsPart err.seen (fault_line fault) × SinkFails err.seen)
       -- A source is left alone where the rows are drawn, and so is the array of the other size of line.
       pub unread : IsUnread call call.asked
       pub others : OthersUntouched call call.asked

@@ -11,14 +11,14 @@ use Rattle.right_runs.specs.Ends.{BankEnd}
 use Rattle.pcm_image.specs.Saved.{Saved}
 use Rattle.right_images.specs.Saving.{saved_of}
 use Rattle.image_text.{specs.Sensing.SensesRows, proofs.Sensing.senses-none}
-use Rattle.run_text.specs.{Pulses.pulses_in_all, SummaryText.summary_text, declared.counts.Counts.Counts}
+use Rattle.run_text.specs.{Pulses.pulses_in_all, SummaryText.summary_text, declared.counts.OutcomeCounts.OutcomeCounts}
 use Rattle.pcm_module.specs.{Roles.spares_used, State.{AreEndsOf, ModuleState}}
 use Rattle.module_prints.specs.{Images.kept_in, StandingMap.standing_map, WearReports.{HaveRoles, IsWearReport}}
 use Rattle.stream_words.specs.{declared.job.Skip.Skip, declared.job.StreamPrint.StreamPrint}
 use Rattle.stream_words.specs.{declared.job.StreamPrint.TheVariants.{Rows, Summary, Wear, Lines, Map, Energy, Image, Snapshots}, declared.job.Tell.Tell}
 use Rattle.stream_top.specs.Leaving.{IsClosing, lines_but, senses_for, spelled, wear_but}
 
-module _ {n m e : ℕ} (module_ : ModuleState n m e) (array : ArrayState n m) (cells : ℕ → LineCells) (rows : ℕ) (counts : Counts) (print : StreamPrint) (P : List ℕ → Type 0) where
+module _ {n m e : ℕ} (module_ : ModuleState n m e) (array : ArrayState n m) (cells : ℕ → LineCells) (rows : ℕ) (counts : OutcomeCounts) (print : StreamPrint) (P : List ℕ → Type 0) where
   -- what is written is the text of the end, by whatever ends the module's banks have
   abbrev pub PrintsOf : Type 0
   PrintsOf =

@@ -6,7 +6,7 @@ use Rattle.energy_report.specs.EnergyText.{energy_report}
 use Rattle.lines_report.specs.declared.row.LineCells.{LineCells}
 use Rattle.module_shape.specs.{Addresses.{array_lines_of, module_of}, Limits.{IsShape, is_small}, declared.raw.RawShape.RawShape}
 use Rattle.right_runs.specs.Ends.{BankEnd}
-use Rattle.run_text.specs.{Counting.counts_of, Pulses.pulses_in_all, SummaryText.summary_text, declared.counts.Counts.Counts}
+use Rattle.run_text.specs.{Counting.counts_of, Pulses.pulses_in_all, SummaryText.summary_text, declared.counts.OutcomeCounts.OutcomeCounts}
 use Rattle.cell_rows.specs.Device.{ArrayState}
 use Rattle.pcm_image.specs.{Saved.Saved, Spelling.image_bytes}
 use Rattle.right_images.specs.Saving.{first_rows, saved_of}
@@ -25,13 +25,13 @@ use Rattle.stream_top.specs.{Calls.LentSource, FaultLines.{fault_line, status_of
 use Rattle.stream_top.specs.Leaving.{IsClosing, Leaves, LeavesLaw, WritesRowsBy, WritesRowsOf, lines_but, senses_for, spelled, wear_but}
 use Rattle.stream_top.specs.Promises.{Breaks, Call, EndsCall, IsAsleep, IsRefused, IsStatusOf, IsUnread, KeepsPromises, OthersOn, OthersUntouched, Stops}
 use Rattle.stream_top.specs.Streams.{BreaksOff, Closes, GoesAsFarAs, HasPlayed, IsServed, IsServedInPart, StopsBy, Streams, StreamsUpTo, done_by, has_stopped, is_off, rows_told}
-use Rattle.stream_top.specs.{Streams.{shown_by, status_done, told_of_rows}, declared.done.Done.Done, declared.done.Done.TheVariants.{Whole, Short}, declared.fault.Fault.Fault}
-use Rattle.stream_top.{specs.declared.fault.Fault.TheVariants.{Usage, Trace, Read, Write, TooLong, NoMemory}, proofs.EndText.PrintsOf}
+use Rattle.stream_top.specs.{Streams.{shown_by, status_done, told_of_rows}, declared.done.StreamDone.StreamDone, declared.done.StreamDone.TheVariants.{Whole, Short}, declared.fault.StreamRunFault.StreamRunFault}
+use Rattle.stream_top.{specs.declared.fault.StreamRunFault.TheVariants.{Usage, Trace, Read, Write, TooLong, NoMemory}, proofs.EndText.PrintsOf}
 use Rattle.command_line.specs.{declared.job.LineSize.LineSize, declared.job.LineSize.TheVariants.{Bytes64, Bytes128}, declared.job.Refusal.Refusal}
 
 -- ---- what is written in the end
 
-module _ {n m : ℕ} (raw : RawShape) (seed rows places : ℕ) (counts all : Counts) (ends : ℕ → BankEnd) (before array : ArrayState n m) (cells cells_now : ℕ → LineCells) (saved : Saved n m) where
+module _ {n m : ℕ} (raw : RawShape) (seed rows places : ℕ) (counts all : OutcomeCounts) (ends : ℕ → BankEnd) (before array : ArrayState n m) (cells cells_now : ℕ → LineCells) (saved : Saved n m) where
   -- it is what is written of the array as it is now
   closing-now : (print : StreamPrint) (text : List ℕ) → rows ≡ places → counts ≡ all → (print ≢ Image → array ≡ before) → (print ≢ Image → cells_now ≡ cells)
       → IsClosing raw seed rows counts ends before cells saved print text → IsClosing raw seed places all ends array cells_now saved print text
@@ -55,7 +55,7 @@ module _ {n m : ℕ} (raw : RawShape) (seed rows places : ℕ) (counts all : Cou
   closing-now (Snapshots every) text same counted still told is = is
 
 -- there is such a text, whatever is asked for
-some-closing : {n m : ℕ} (raw : RawShape) (seed rows : ℕ) (counts : Counts) (ends : ℕ → BankEnd) (array : ArrayState n m) (cells : ℕ → LineCells) (saved : Saved n m) (print : StreamPrint)
+some-closing : {n m : ℕ} (raw : RawShape) (seed rows : ℕ) (counts : OutcomeCounts) (ends : ℕ → BankEnd) (array : ArrayState n m) (cells : ℕ → LineCells) (saved : Saved n m) (print : StreamPrint)
     → IsShape raw → HaveRoles raw seed ends → array.lines ≡ raw.banks * array_lines_of (module_of raw) → (text : List ℕ) × IsClosing raw seed rows counts ends array cells saved print text
 some-closing raw seed rows counts ends array cells saved (Rows tell) is roles size = ([], refl)
 some-closing raw seed rows counts ends array cells saved Summary is roles size = (summary_text rows counts (spares_used raw ends) (pulses_in_all array), refl)
@@ -124,7 +124,7 @@ module _ {S : Type 0} (n m e : ℕ) (job : StreamJob) (source : LentSource S) (m
   }
 
   -- a stream that stopped at a fault
-  pub stream-stops : before.wear ≡ Some job.wear → (out : SinkChange) (fault : Fault) (asked : List (Asked n)) (had : IsServing job.shape job.seed asked module_ before places told prints snaps) → StopsBy n m e job source job.input fault asked
+  pub stream-stops : before.wear ≡ Some job.wear → (out : SinkChange) (fault : StreamRunFault) (asked : List (Asked n)) (had : IsServing job.shape job.seed asked module_ before places told prints snaps) → StopsBy n m e job source job.input fault asked
       → GoesAsFarAs n m e job source fault asked (told_so_far had) → Appends out.written_before out.written_now (stream_text prints told snaps) → StreamsUpTo n m e job source out before fault
   unfolding part-of
   stream-stops wear out fault asked serving stops far gets = record {
@@ -163,7 +163,7 @@ module _ {S : Type 0} (n m e : ℕ) (job : StreamJob) (source : LentSource S) (m
     }
 
     -- the text of the end, as it was printed of the module and the array before, is what closes the stream
-    closes-of : (rows : ℕ) (counts : Counts) → rows ≡ places → counts ≡ counts_of (table_of places told) → (P : List ℕ → Type 0) → PrintsOf module_ before (cells_at e before changes) rows counts job.print P
+    closes-of : (rows : ℕ) (counts : OutcomeCounts) → rows ≡ places → counts ≡ counts_of (table_of places told) → (P : List ℕ → Type 0) → PrintsOf module_ before (cells_at e before changes) rows counts job.print P
         → (whole : List ℕ) × Closes n m e job source array changes_now told served-of whole × P whole
     unfolding served-of
     closes-of rows counts same counted P prints =
@@ -178,8 +178,8 @@ module _ {S : Type 0} (n m e : ℕ) (job : StreamJob) (source : LentSource S) (m
 
     -- it was served to its end, and its whole text was written
     pub stream-whole : (out : SinkChange) (mid : Option (List ℕ)) → Appends out.written_before mid (stream_text prints told snaps)
-        → (rows : ℕ) (counts : Counts) → rows ≡ places → counts ≡ counts_of (table_of places told) → PrintsOf module_ before (cells_at e before changes) rows counts job.print (λ whole. Appends mid out.written_now whole)
-        → sensed ≡ senses_for job.print before.lines → (done : Done) → done ≡ done_by (has_stopped n m e job source asked (told_of_rows n m e job source asked played.0.0)) (table_of places told) → Streams n m e job source out array changes_now done
+        → (rows : ℕ) (counts : OutcomeCounts) → rows ≡ places → counts ≡ counts_of (table_of places told) → PrintsOf module_ before (cells_at e before changes) rows counts job.print (λ whole. Appends mid out.written_now whole)
+        → sensed ≡ senses_for job.print before.lines → (done : StreamDone) → done ≡ done_by (has_stopped n m e job source asked (told_of_rows n m e job source asked played.0.0)) (table_of places told) → Streams n m e job source out array changes_now done
     unfolding served-of
     stream-whole out mid gets rows counts same counted writes all done is =
         let text = closes-of rows counts same counted (λ whole. Appends mid out.written_now whole) writes in
@@ -196,7 +196,7 @@ module _ {S : Type 0} (n m e : ℕ) (job : StreamJob) (source : LentSource S) (m
 
     -- so it was, and the output failed within the text of the end
     pub stream-part : (out : SinkChange) (mid : Option (List ℕ)) → Appends out.written_before mid (stream_text prints told snaps)
-        → (rows : ℕ) (counts : Counts) → rows ≡ places → counts ≡ counts_of (table_of places told) → PrintsOf module_ before (cells_at e before changes) rows counts job.print (λ whole. AppendsPrefix mid out.written_now whole)
+        → (rows : ℕ) (counts : OutcomeCounts) → rows ≡ places → counts ≡ counts_of (table_of places told) → PrintsOf module_ before (cells_at e before changes) rows counts job.print (λ whole. AppendsPrefix mid out.written_now whole)
         → sensed ≤ senses_for job.print before.lines
         → (job.print ≡ Image → WritesRowsOf module_.shape array (saved_of module_.shape module_.seed (kept_in module_) before) mid out.written_now)
         → SinkFails out → BreaksOff n m e job source out array changes_now
@@ -265,7 +265,7 @@ module _ {S : Type 0} (n m e : ℕ) (job : StreamJob) (source : LentSource S) (m
     fails = part.1;
   }
 
-is_write : (fault : Fault) → (fault ≡ Write) ⊎ (fault ≢ Write)
+is_write : (fault : StreamRunFault) → (fault ≡ Write) ⊎ (fault ≢ Write)
 is_write Usage = inr (λ is. cc is)
 is_write (Trace f) = inr (λ is. cc is)
 is_write Read = inr (λ is. cc is)
@@ -273,27 +273,27 @@ is_write Write = inl refl
 is_write TooLong = inr (λ is. cc is)
 is_write NoMemory = inr (λ is. cc is)
 
-done-low : (done : Done) → status_done done ≤ 1
+done-low : (done : StreamDone) → status_done done ≤ 1
 done-low Whole = omega arith
 done-low Short = omega arith
 
 -- a stream that ended otherwise than by a fault of writing
-pub calm-fault : (result : Result Done Fault) (fault : Fault) → result ≡ Err fault → fault ≢ Write → result ≢ Err Write
+pub calm-fault : (result : Result StreamDone StreamRunFault) (fault : StreamRunFault) → result ≡ Err fault → fault ≢ Write → result ≢ Err Write
 calm-fault result fault is other failed =
     let both : Err fault ≡ Err Write = sym is ∙ failed in
     let same : fault ≡ Write = cc in
     other same
 
-pub calm-done : (result : Result Done Fault) (done : Done) → result ≡ Ok done → result ≢ Err Write
+pub calm-done : (result : Result StreamDone StreamRunFault) (done : StreamDone) → result ≡ Ok done → result ≢ Err Write
 calm-done result done is failed =
     let both : Ok done ≡ Err Write = sym is ∙ failed in
     cc both
 
-pub never-failed : (done : Done) (P : Type 0) → Ok done ≡ Err Write → P
+pub never-failed : (done : StreamDone) (P : Type 0) → Ok done ≡ Err Write → P
 never-failed done P is = absurd (cc is)
 
 -- what a call promises, by how it ended and what was said of that
-pub keeps : {A V S K F : Type 0} (call : Call A V S K) (err : Lent F SinkChange) (status : ℕ) (result : Result Done Fault) → EndsCall call result → IsStatusOf result err status → KeepsPromises call err status
+pub keeps : {A V S K F : Type 0} (call : Call A V S K) (err : Lent F SinkChange) (status : ℕ) (result : Result StreamDone StreamRunFault) → EndsCall call result → IsStatusOf result err status → KeepsPromises call err status
 keeps call err status (Ok done) ends said =
     let low : status ≤ 1 = omega (arith, said.done.0, done-low done) in
     record {
@@ -313,7 +313,7 @@ keeps call err status (Err fault) ends said =
           let t = said.fault.told other in
           (fault, ends.cause (λ is. other (t.0 ∙ ap status_of is)), t.0, t.1);
       broken = λ five. elim (is_write fault) [
-        | inl is ↦ inl (ends.write (ap Err is), subst (λ (f : Fault). IsTried err.seen (fault_line f)) is said.fault.tried)
+        | inl is ↦ inl (ends.write (ap Err is), subst (λ (f : StreamRunFault). IsTried err.seen (fault_line f)) is said.fault.tried)
         | inr other ↦ inr (fault, ends.cause other, said.fault.part, said.fault.broken five other)
       ];
       unread = ends.unread;
@@ -321,13 +321,13 @@ keeps call err status (Err fault) ends said =
     }
 
 -- words that gave no job leave all as it was
-pub refused : {A V S K : Type 0} (call : Call A V S K) (asked : Result StreamJob Refusal) (fault : Fault) → IsRefused asked fault → IsAsleep call → Stops call asked fault
+pub refused : {A V S K : Type 0} (call : Call A V S K) (asked : Result StreamJob Refusal) (fault : StreamRunFault) → IsRefused asked fault → IsAsleep call → Stops call asked fault
 refused call (Err e) fault (inl none) asleep = (inr none, asleep)
 refused call (Err e) fault (inr usage) asleep = (inl usage.0, asleep)
 refused call (Ok job) fault (inl none) asleep = inr (none, asleep)
 refused call (Ok job) fault (inr usage) asleep = absurd (cc usage.1)
 
-refused-unwritten : (asked : Result StreamJob Refusal) (fault : Fault) → IsRefused asked fault → fault ≢ Write
+refused-unwritten : (asked : Result StreamJob Refusal) (fault : StreamRunFault) → IsRefused asked fault → fault ≢ Write
 refused-unwritten asked fault (inl none) is = let clash : NoMemory ≡ Write = sym none ∙ is in cc clash
 refused-unwritten asked fault (inr usage) is = let clash : Usage ≡ Write = sym usage.0 ∙ is in cc clash
 
@@ -343,5 +343,5 @@ refused-others call (Ok job) narrow wide = on job.line
     on Bytes64 = wide
     on Bytes128 = narrow
 
-pub refused-breaks : {A V S K : Type 0} (call : Call A V S K) (asked : Result StreamJob Refusal) (fault : Fault) → IsRefused asked fault → (result : Result Done Fault) → result ≡ Err fault → result ≡ Err Write → Breaks call asked
+pub refused-breaks : {A V S K : Type 0} (call : Call A V S K) (asked : Result StreamJob Refusal) (fault : StreamRunFault) → IsRefused asked fault → (result : Result StreamDone StreamRunFault) → result ≡ Err fault → result ≡ Err Write → Breaks call asked
 refused-breaks call asked fault refusal result is failed = absurd (calm-fault result fault is (refused-unwritten asked fault refusal) failed)

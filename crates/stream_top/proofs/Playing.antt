@@ -14,7 +14,7 @@ use Rattle.stream_words.specs.declared.job.StreamJob.{StreamJob}
 use Rattle.trace_stream.specs.declared.asked.Asked.{Asked}
 use Rattle.trace_stream.specs.declared.fault.StreamFault.TheVariants as from
 use Rattle.stream_top.specs.{Calls.LentSource, Streams.{ComeFrom, GoesAsFarAs, HasCause, HasPlayed, has_stopped, is_off, stop_fault, stops_at_refusal, told_of_rows}}
-use Rattle.stream_top.specs.declared.fault.Fault.TheVariants.{Write}
+use Rattle.stream_top.specs.declared.fault.StreamRunFault.TheVariants.{Write}
 
 -- a module to which nothing was handed yet has served nothing
 pub serves-none : {n m e : ℕ} (raw : RawShape) (seed : ℕ) (module_ : ModuleState n m e) (array : ArrayState n m) (shown : Shown) → module_.shape ≡ raw → module_.seed ≡ seed → module_.tick ≡ 0

@@ -19,6 +19,8 @@ tells-so lines left taken faults first received before P Q so (suc times) source
       is.0,
       tells-so lines left taken faults first received before P Q so times is.0 is.1,
       record { asked = it.asked; come = it.come; text = it.text; told = so it.asked it.text it.told; sink = it.sink; written = it.written },
+      is.3,
+      is.4,
     )
 
 -- what a printer shows is what the job asks

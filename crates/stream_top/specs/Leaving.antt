@@ -2,7 +2,7 @@
 use Rattle.std.specs.Prelude.{◌≡◌, ℕ, ◌^◌, ◌<◌, Bool, true, false, if◌then◌else◌, List, [], Option}
 use Rattle.cell_rows.specs.Device.{ArrayState}
 use Rattle.row_rules.specs.declared.Row.{Row}
-use Rattle.run_text.specs.{Pulses.pulses_in_all, SummaryText.summary_text, WearText.wear_text, declared.counts.Counts.Counts}
+use Rattle.run_text.specs.{Pulses.pulses_in_all, SummaryText.summary_text, WearText.wear_text, declared.counts.OutcomeCounts.OutcomeCounts}
 use Rattle.bank_shape.specs.declared.Role.{Role}
 use Rattle.energy_report.specs.EnergyText.{energy_report}
 use Rattle.lines_report.specs.{LinesText.lines_text, declared.row.LineCells.LineCells}
@@ -66,7 +66,7 @@ WritesRowsOf raw array saved was now = WritesRowsBy (is_small raw) array saved w
 
 -- what is written in the end of so many rows, of which so many had each outcome: by the ends of the banks, the array, what the
 -- cells of its lines say, and the module that is saved
-abbrev pub IsClosing : {n m : ℕ} → RawShape → ℕ → ℕ → Counts → (ℕ → BankEnd) → ArrayState n m → (ℕ → LineCells) → Saved n m → StreamPrint → List ℕ → Type 0
+abbrev pub IsClosing : {n m : ℕ} → RawShape → ℕ → ℕ → OutcomeCounts → (ℕ → BankEnd) → ArrayState n m → (ℕ → LineCells) → Saved n m → StreamPrint → List ℕ → Type 0
 IsClosing raw seed rows counts ends array cells saved (Rows tell) text = text ≡ []
 IsClosing raw seed rows counts ends array cells saved Summary text = text ≡ summary_text rows counts (spares_used raw ends) (pulses_in_all array)
 IsClosing raw seed rows counts ends array cells saved (Wear skip) text =

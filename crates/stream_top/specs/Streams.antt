@@ -16,8 +16,8 @@ use Rattle.row_printer.specs.{declared.told.Told.Told, declared.told.ToldRest.To
 use Rattle.row_printer.specs.declared.told.Shown.TheVariants as shown
 use Rattle.stream_words.specs.{Jobs.IsStreamJob, declared.job.End.End, declared.job.End.TheVariants.{Drain, Off}, declared.job.StreamJob.StreamJob}
 use Rattle.stream_words.specs.{declared.job.StreamPrint.StreamPrint, declared.job.StreamPrint.TheVariants.{Rows, Summary, Wear, Lines, Map, Energy, Image, Snapshots}}
-use Rattle.stream_words.specs.{declared.job.Tell.Tell, declared.job.Tell.TheVariants.{Nothing, Shape, Module}, declared.job.Until.Until}
-use Rattle.stream_words.specs.declared.job.Until.TheVariants as up_to
+use Rattle.stream_words.specs.{declared.job.Tell.Tell, declared.job.Tell.TheVariants.{Nothing, Shape, Module}, declared.job.StreamUntil.StreamUntil}
+use Rattle.stream_words.specs.declared.job.StreamUntil.TheVariants as up_to
 use Rattle.drawn_parts.specs.Parts.{drawn_for}
 use Rattle.trace_gen.specs.Generated.{generated}
 use Rattle.trace_stream.specs.{Asked.events_in, Laws.all_events, declared.asked.Asked.Asked}
@@ -25,8 +25,8 @@ use Rattle.trace_stream.specs.declared.fault.StreamFault.TheVariants as from
 use Rattle.row_stream.specs.{Asking.{BeginsWith, stays_off, with_cut}, Ending.{EndsShowing, HasEnded, SnapsAll, rows_of, told_along, without_cut}, Laws.TellsEach}
 use Rattle.row_stream.specs.{Refusing.{EndsBehind, MayGoOn, WentOn, tells_refusal}, Serving.{HasServed, IsToldOf, SnapsAlong, Telling, TellsAlong}, Sourcing.{HasStopped, IsRead, IsReadTo}}
 use Rattle.row_stream.specs.{declared.stop.Stop.Stop, declared.stop.Stop.TheVariants.{Input as No, Late, Endless, Output}}
-use Rattle.stream_top.specs.{Calls.LentSource, Leaving.{IsClosing, Leaves, WritesRowsOf, senses_for}, declared.done.Done.Done, declared.done.Done.TheVariants.{Whole, Short}}
-use Rattle.stream_top.specs.{declared.fault.Fault.Fault, declared.fault.Fault.TheVariants.{Usage, Trace, Read, Write, TooLong, NoMemory}}
+use Rattle.stream_top.specs.{Calls.LentSource, Leaving.{IsClosing, Leaves, WritesRowsOf, senses_for}, declared.done.StreamDone.StreamDone, declared.done.StreamDone.TheVariants.{Whole, Short}}
+use Rattle.stream_top.specs.{declared.fault.StreamRunFault.StreamRunFault, declared.fault.StreamRunFault.TheVariants.{Usage, Trace, Read, Write, TooLong, NoMemory}}
 
 -- whether the power is to stay off behind the last row
 abbrev pub is_off : End → Bool
@@ -39,7 +39,7 @@ is_source Source = true
 is_source (Drawn mix) = false
 
 -- whether a stream is to stop at a refusal
-abbrev pub stops_at_refusal : Until → Bool
+abbrev pub stops_at_refusal : StreamUntil → Bool
 stops_at_refusal up_to.End = false
 stops_at_refusal up_to.Refused = true
 
@@ -77,7 +77,7 @@ shown_by raw seed Image = shown.Nothing
 shown_by raw seed (Snapshots every) = shown.Snapshots every
 
 -- the fault of the program that a stop of a stream is
-abbrev pub stop_fault : Stop → Fault
+abbrev pub stop_fault : Stop → StreamRunFault
 stop_fault (No (from.Trace f)) = Trace f
 stop_fault (No from.TooMany) = TooLong
 stop_fault (No from.Read) = Read
@@ -88,10 +88,10 @@ stop_fault Endless = TooLong
 stop_fault Output = Write
 
 -- how a stream was done: wholly where it stopped at a refusal, as it was to; else by the outcomes of its rows; and the status for that
-abbrev pub done_by : {n : ℕ} → Bool → List (Outcome n) → Done
+abbrev pub done_by : {n : ℕ} → Bool → List (Outcome n) → StreamDone
 done_by stopped outcomes = if stopped then Whole else (if any_short outcomes then Short else Whole)
 
-abbrev pub status_done : Done → ℕ
+abbrev pub status_done : StreamDone → ℕ
 status_done Whole = 0
 status_done Short = 1
 
@@ -114,7 +114,7 @@ module _ {S : Type 0} (n m e : ℕ) (job : StreamJob) (source : LentSource S) wh
   has_stopped asked telling = stops_at_refusal job.until && tells_refusal asked telling
 
   -- and where a fault ends it, it didn't: nothing was refused; but the last row may have been where the output failed
-  abbrev pub GoesAsFarAs : Fault → (asked : List (Asked n)) → Telling n m e job.shape job.seed asked → Type 0
+  abbrev pub GoesAsFarAs : StreamRunFault → (asked : List (Asked n)) → Telling n m e job.shape job.seed asked → Type 0
   GoesAsFarAs Usage asked telling = MayGoOn (stops_at_refusal job.until) asked telling
   GoesAsFarAs (Trace f) asked telling = MayGoOn (stops_at_refusal job.until) asked telling
   GoesAsFarAs Read asked telling = MayGoOn (stops_at_refusal job.until) asked telling
@@ -127,7 +127,7 @@ module _ {S : Type 0} (n m e : ℕ) (job : StreamJob) (source : LentSource S) wh
   Stops stop asked = HasStopped (total_of job.shape) source.left source.taken source.faults source.before source.now asked stop
 
   -- why a stream that is read isn't served to its end
-  abbrev pub HasCause : Fault → List (Asked n) → Type 0
+  abbrev pub HasCause : StreamRunFault → List (Asked n) → Type 0
   HasCause Usage asked = ⊥
   HasCause (Trace f) asked = Stops (No (from.Trace f)) asked ⊎ Stops (Late f) asked
   HasCause Read asked = Stops (No from.Read) asked
@@ -136,7 +136,7 @@ module _ {S : Type 0} (n m e : ℕ) (job : StreamJob) (source : LentSource S) wh
   HasCause NoMemory asked = Stops (No from.NoMemory) asked
 
   -- why one isn't, wherever its rows come from: of those that are drawn only the output may fail
-  abbrev pub StopsBy : Input → Fault → List (Asked n) → Type 0
+  abbrev pub StopsBy : Input → StreamRunFault → List (Asked n) → Type 0
   StopsBy Source fault asked = HasCause fault asked
   StopsBy (Drawn mix) fault asked =
       (fault ≡ Write) × (source.now ≡ source.before) × BeginsWith asked (all_events (drawn_for job.shape job.seed job.banks (generated n job.seed (total_of job.shape) mix)))
@@ -206,7 +206,7 @@ module _ {S : Type 0} (n m e : ℕ) (job : StreamJob) (source : LentSource S) wh
   module _ (out : SinkChange) where
     -- it was served to its end, and exactly what was told was written, and then the text of the end, for which each line was sensed where it is an
     -- image, and else none; whether a row fell short says how it was done
-    pub record Streams (array : ArrayState n m) (changes : ℕ → Option (ℕ → ℕ)) (done : Done) : Type 0 where
+    pub record Streams (array : ArrayState n m) (changes : ℕ → Option (ℕ → ℕ)) (done : StreamDone) : Type 0 where
       pub told : List (Told n)
       pub served : IsServed array told
       pub text : List ℕ
@@ -216,7 +216,7 @@ module _ {S : Type 0} (n m e : ℕ) (job : StreamJob) (source : LentSource S) wh
       pub ending : done ≡ done_by (has_stopped served.asked (told_of_rows served.asked served.ended)) (table_of served.places told)
 
     -- it stopped at this fault; exactly what was known by then was written
-    pub record StreamsUpTo (array : ArrayState n m) (fault : Fault) : Type 0 where
+    pub record StreamsUpTo (array : ArrayState n m) (fault : StreamRunFault) : Type 0 where
       pub asked : List (Asked n)
       pub told : List (Told n)
       pub served : IsServedInPart array asked told
@@ -251,7 +251,7 @@ module _ {S : Type 0} (n m e : ℕ) (job : StreamJob) (source : LentSource S) wh
 
   -- how a stream ends: it is served to its end; or the output fails; or it stops at a fault that has its cause; or there is no memory to begin with,
   -- and nothing is read or written
-  pub record Ends {K : Type 0} (out : Lent K SinkChange) (array : ArrayState n m) (changes : ℕ → Option (ℕ → ℕ)) (result : Result Done Fault) : Type 0 where
+  pub record Ends {K : Type 0} (out : Lent K SinkChange) (array : ArrayState n m) (changes : ℕ → Option (ℕ → ℕ)) (result : Result StreamDone StreamRunFault) : Type 0 where
     pub done : IfOk result (Streams out.seen array changes)
     pub write : result ≡ Err Write → BreaksOff out.seen array changes
     pub cause : IfErr result (λ fault. fault ≢ Write

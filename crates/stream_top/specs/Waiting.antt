@@ -13,7 +13,7 @@ IsJobText n m e job asked text = IsStreamJob job × IsTextOf n m e job.shape job
 
 -- of texts of a job's rows, of its source, and of a sink, which had received this before
 module _ {S K : Type 0} (IsText : (n m e : ℕ) → StreamJob → List (Asked n) → List ℕ → Type 0) (source : LentSource S) (received : K → Option (List ℕ)) (before : Option (List ℕ)) where
-  -- each time that the source was asked for a row, all that was known had been told and written
+  -- before each request to the source, which gave a piece at most, all that was known had been told and written
   abbrev pub WaitsOn : (n m e : ℕ) → StreamJob → Type 0
   WaitsOn n m e job = (times : ℕ) × TellsFirst (total_of job.shape) source.left source.taken source.faults source.before received before (IsText n m e job) times source.now
 

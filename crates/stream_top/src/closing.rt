@@ -22,7 +22,7 @@ use module_prints::{
 };
 use pcm_io::{Sink, Text, WriteFault};
 use pcm_module::Module;
-use run_text::{Counts, print_rest, print_summary, sum_pulses};
+use run_text::{OutcomeCounts, print_rest, print_summary, sum_pulses};
 use stream_words::{Skip, StreamJob, StreamPrint};
 use text_printer::TEXT_ROOM;
 
@@ -69,7 +69,7 @@ pub fn print_closing<const B: usize, const M: usize, const E: usize, A: TellsCel
     pcm: &Module<B, M, E>,
     array: &mut A,
     rows: u32,
-    counts: &Counts,
+    counts: &OutcomeCounts,
     text: &mut Text,
     out: &mut K,
 ) -> Result<(), WriteFault>

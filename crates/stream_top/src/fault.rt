@@ -9,7 +9,7 @@ use trace_reader::TraceFault;
 
 /// Why a call of the program ends without its work done.
 #[derive(Clone, Copy, PartialEq)]
-pub enum Fault {
+pub enum StreamRunFault {
     /// The words ask for nothing.
     Usage,
     /// A row has a fault.
@@ -24,32 +24,32 @@ pub enum Fault {
     NoMemory,
 }
 
-impl Fault {
+impl StreamRunFault {
     /// The status of the program for it.
     pub fn status(self) -> u8
         ensures { result ≡ status_of self }
     {
         match self {
-            Fault::Usage => 2,
-            Fault::Trace(_) => 3,
-            Fault::Read => 4,
-            Fault::Write => 5,
-            Fault::TooLong => 6,
-            Fault::NoMemory => 7,
+            StreamRunFault::Usage => 2,
+            StreamRunFault::Trace(_) => 3,
+            StreamRunFault::Read => 4,
+            StreamRunFault::Write => 5,
+            StreamRunFault::TooLong => 6,
+            StreamRunFault::NoMemory => 7,
         }
     }
 }
 
 /// Writes the line of a fault.
-pub fn tell<F: Sink>(fault: Fault, err: &mut F) -> Result<(), WriteFault>
+pub fn tell<F: Sink>(fault: StreamRunFault, err: &mut F) -> Result<(), WriteFault>
     ensures { Writes (fault_line fault) (sink_change F.written F.faults err.old err.new) result }
 {
     match fault {
-        Fault::Usage => write_all(err, b"usage: pcm stream [options]\n"),
-        Fault::Trace(fault) => tell_trace(fault, err),
-        Fault::Read => write_all(err, b"read fault\n"),
-        Fault::Write => write_all(err, b"write fault\n"),
-        Fault::TooLong => write_all(err, b"trace too long\n"),
-        Fault::NoMemory => write_all(err, b"out of memory\n"),
+        StreamRunFault::Usage => write_all(err, b"usage: pcm stream [options]\n"),
+        StreamRunFault::Trace(fault) => tell_trace(fault, err),
+        StreamRunFault::Read => write_all(err, b"read fault\n"),
+        StreamRunFault::Write => write_all(err, b"write fault\n"),
+        StreamRunFault::TooLong => write_all(err, b"trace too long\n"),
+        StreamRunFault::NoMemory => write_all(err, b"out of memory\n"),
     }
 }

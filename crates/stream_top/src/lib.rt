@@ -10,6 +10,6 @@ mod memory;
 mod program;
 mod serving;
 
-pub use done::Done;
-pub use fault::{Fault, tell};
+pub use done::StreamDone;
+pub use fault::{StreamRunFault, tell};
 pub use program::stream_run;

@@ -6,8 +6,8 @@ ghost use Rattle.stream_top.specs.Calls.{lent_telling, source_between};
 ghost use Rattle.stream_top.specs.Promises.{EndsCall, IsRefused, IsStatusOf, IsToldOf, KeepsPromises};
 ghost use Rattle.stream_top.specs.Waiting.{IsJobText, WaitsAt, WaitsFor};
 
-use crate::done::Done;
-use crate::fault::{Fault, tell};
+use crate::done::StreamDone;
+use crate::fault::{StreamRunFault, tell};
 use crate::serving::stream;
 use command_line::{LineSize, Refusal};
 use pcm_io::{Sink, Source};
@@ -16,17 +16,17 @@ use stream_words::{StreamJob, read_stream_job};
 use wear_totals::TellsWear;
 
 // The status of a fault, after its line was written; that of a fault of writing where the line couldn't be.
-fn give_up<F: Sink>(fault: Fault, err: &mut F) -> u8
+fn give_up<F: Sink>(fault: StreamRunFault, err: &mut F) -> u8
     ensures { IsToldOf fault (sink_change F.written F.faults err.old err.new) result }
 {
     match tell(fault, err) {
         Ok(()) => fault.status(),
-        Err(_) => Fault::Write.status(),
+        Err(_) => StreamRunFault::Write.status(),
     }
 }
 
 // The status of how a stream ended, after the line of its fault was written.
-fn say<F: Sink>(ended: Result<Done, Fault>, err: &mut F) -> u8
+fn say<F: Sink>(ended: Result<StreamDone, StreamRunFault>, err: &mut F) -> u8
     ensures { IsStatusOf ended (lent_sink F.written F.faults err.old err.new) result }
 {
     match ended {
@@ -43,7 +43,7 @@ fn stream_on<A: TellsWear<64, 8, 6>, V: TellsWear<128, 16, 8>, S: Source, K: Sin
     wide: &mut V,
     source: &mut S,
     out: Box<K>,
-) -> (Result<Done, Fault>, Box<K>)
+) -> (Result<StreamDone, StreamRunFault>, Box<K>)
     requires job { IsStreamJob job.now }
     ensures ends { EndsCall (record {
       asked = Ok job.now;
@@ -63,7 +63,7 @@ fn stream_on<A: TellsWear<64, 8, 6>, V: TellsWear<128, 16, 8>, S: Source, K: Sin
 }
 
 // The job of the words.
-fn read_words(alloc: Global, words: &[String]) -> Result<StreamJob, Fault>
+fn read_words(alloc: Global, words: &[String]) -> Result<StreamJob, StreamRunFault>
     ensures ok { IfOk result (λ job. stream_job_of (map string_bytes words.now) ≡ Ok job) }
     ensures err { IfErr result (λ fault.
         IsRefused (stream_job_of (map string_bytes words.now)) fault) }
@@ -71,8 +71,8 @@ fn read_words(alloc: Global, words: &[String]) -> Result<StreamJob, Fault>
 {
     match read_stream_job(alloc, words) {
         Ok(job) => Ok(job),
-        Err(Refusal::Usage) => Err(Fault::Usage),
-        Err(Refusal::NoMemory) => Err(Fault::NoMemory),
+        Err(Refusal::Usage) => Err(StreamRunFault::Usage),
+        Err(Refusal::NoMemory) => Err(StreamRunFault::NoMemory),
     }
 }
 
@@ -84,7 +84,7 @@ fn work<A: TellsWear<64, 8, 6>, V: TellsWear<128, 16, 8>, S: Source, K: Sink + D
     wide: &mut V,
     source: &mut S,
     out: Box<K>,
-) -> (Result<Done, Fault>, Box<K>)
+) -> (Result<StreamDone, StreamRunFault>, Box<K>)
     ensures ends { EndsCall (record {
       asked = stream_job_of (map string_bytes words.now);
       array = lent_telling A.state A.changes array.old array.new;

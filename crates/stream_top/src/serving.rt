@@ -21,8 +21,8 @@ ghost use Rattle.stream_top.specs.Streams.{ComeFrom, Ends, GoesAsFarAs, HasPlaye
 ghost use Rattle.stream_top.specs.Waiting.{IsJobText, WaitsOn};
 
 use crate::closing::print_closing;
-use crate::done::Done;
-use crate::fault::Fault;
+use crate::done::StreamDone;
+use crate::fault::StreamRunFault;
 use crate::laws::ended_streams_are_kept;
 use crate::memory::take_memory;
 use command_line::Input;
@@ -32,24 +32,24 @@ use pcm_module::Module;
 use row_printer::{RowPrinter, Shown, ToldRest, ToldShape};
 use row_stream::{Behind, Stop, each_row_is_told, end, serve_drawn, serve_source};
 use std::alloc::Global;
-use stream_words::{End, StreamJob, StreamPrint, Tell, Until};
+use stream_words::{End, StreamJob, StreamPrint, StreamUntil, Tell};
 use text_printer::TEXT_ROOM;
 use trace_stream::StreamFault;
 use wear_totals::TellsWear;
 
 // The fault of the program that a stop of a stream is.
-fn fault_of(stop: Stop) -> Fault
+fn fault_of(stop: Stop) -> StreamRunFault
     ensures { result ≡ stop_fault stop }
 {
     match stop {
-        Stop::Input(StreamFault::Trace(fault)) => Fault::Trace(fault),
-        Stop::Input(StreamFault::TooMany) => Fault::TooLong,
-        Stop::Input(StreamFault::Read) => Fault::Read,
-        Stop::Input(StreamFault::Endless) => Fault::TooLong,
-        Stop::Input(StreamFault::NoMemory) => Fault::NoMemory,
-        Stop::Late(fault) => Fault::Trace(fault),
-        Stop::Endless => Fault::TooLong,
-        Stop::Output => Fault::Write,
+        Stop::Input(StreamFault::Trace(fault)) => StreamRunFault::Trace(fault),
+        Stop::Input(StreamFault::TooMany) => StreamRunFault::TooLong,
+        Stop::Input(StreamFault::Read) => StreamRunFault::Read,
+        Stop::Input(StreamFault::Endless) => StreamRunFault::TooLong,
+        Stop::Input(StreamFault::NoMemory) => StreamRunFault::NoMemory,
+        Stop::Late(fault) => StreamRunFault::Trace(fault),
+        Stop::Endless => StreamRunFault::TooLong,
+        Stop::Output => StreamRunFault::Write,
     }
 }
 
@@ -64,35 +64,35 @@ fn stays_off(end: End) -> bool
 }
 
 // Whether a stream is to stop at a refusal.
-fn stops_at(until: Until) -> bool
+fn stops_at(until: StreamUntil) -> bool
     ensures { result ≡ stops_at_refusal until }
 {
     match until {
-        Until::End => false,
-        Until::Refused => true,
+        StreamUntil::End => false,
+        StreamUntil::Refused => true,
     }
 }
 
 // Whether one that is to stop there has come to a refusal.
-fn has_stopped<const B: usize, K: Sink + Drop>(until: Until, out: &RowPrinter<B, K>) -> bool
+fn has_stopped<const B: usize, K: Sink + Drop>(until: StreamUntil, out: &RowPrinter<B, K>) -> bool
     ensures { result ≡ (stops_at_refusal until && any_refused (table_told out.now)) }
 {
     match until {
-        Until::End => false,
-        Until::Refused => out.refused(),
+        StreamUntil::End => false,
+        StreamUntil::Refused => out.refused(),
     }
 }
 
 // How a stream was done.
-fn done<const B: usize, K: Sink + Drop>(stopped: bool, out: &RowPrinter<B, K>) -> Done
+fn done<const B: usize, K: Sink + Drop>(stopped: bool, out: &RowPrinter<B, K>) -> StreamDone
     ensures { result ≡ done_by stopped (table_told out.now) }
 {
     if stopped {
-        Done::Whole
+        StreamDone::Whole
     } else if out.short() {
-        Done::Short
+        StreamDone::Short
     } else {
-        Done::Whole
+        StreamDone::Whole
     }
 }
 
@@ -168,7 +168,7 @@ fn serve_rows<
     array: &mut A,
     source: &mut S,
     out: &mut RowPrinter<B, K>,
-) -> Result<Behind, Fault>
+) -> Result<Behind, StreamRunFault>
     requires layout { IsLayout B M E }
     requires job { IsStreamJob job.now }
     requires begins { IsServing job.now.shape job.now.seed [] pcm.old (A.state array.old)
@@ -191,10 +191,10 @@ fn serve_rows<
     ensures printing { (before : Option (List ℕ)) (first : ℕ)
         → IsPrinting K.written K.faults before first out.old
         → IsPrinting K.written K.faults before first out.new }
-    ensures written { result ≢ Err Fault.Write → (before : Option (List ℕ)) (first : ℕ)
+    ensures written { result ≢ Err StreamRunFault.Write → (before : Option (List ℕ)) (first : ℕ)
         → IsPrinting K.written K.faults before first out.old
         → Appends before (K.written out.new.sink) (text_told out.new) }
-    ensures part { result ≡ Err Fault.Write → (before : Option (List ℕ)) (first : ℕ)
+    ensures part { result ≡ Err StreamRunFault.Write → (before : Option (List ℕ)) (first : ℕ)
         → IsPrinting K.written K.faults before first out.old
         → AppendsPrefix before (K.written out.new.sink) (text_told out.new)
         × Rose first (K.faults out.new.sink) }
@@ -214,7 +214,7 @@ fn serve_rows<
         },
         Input::Drawn(mix) => match serve_drawn(pcm, array, job.seed, mix, job.banks, stops, out) {
             Ok(behind) => Ok(behind),
-            Err(_) => Err(Fault::Write),
+            Err(_) => Err(StreamRunFault::Write),
         },
     }
 }
@@ -234,7 +234,7 @@ fn play<
     array: &mut A,
     source: &mut S,
     out: &mut RowPrinter<B, K>,
-) -> Result<Done, Fault>
+) -> Result<StreamDone, StreamRunFault>
     requires layout { IsLayout B M E }
     requires job { IsStreamJob job.now }
     requires begins { IsServing job.now.shape job.now.seed [] pcm.old (A.state array.old)
@@ -247,28 +247,28 @@ fn play<
         (source_between S.left S.taken S.faults source.old source.new) asked
         (told_of_rows B M E job.now (source_between S.left S.taken S.faults source.old source.new)
         asked played.0.0)) (table_told out.new))) }
-    ensures stopped { IfErr result (λ fault. fault ≢ Fault.Write → (asked : List (StreamAsked B))
+    ensures stopped { IfErr result (λ fault. fault ≢ StreamRunFault.Write → (asked : List (StreamAsked B))
         × (had : IsServing job.now.shape job.now.seed asked pcm.new (A.state array.new) out.new.rows
         out.new.told out.new.prints out.new.snapshots)
         × StopsBy B M E job.now (source_between S.left S.taken S.faults source.old source.new)
         job.now.input fault asked
         × GoesAsFarAs B M E job.now (source_between S.left S.taken S.faults source.old source.new)
         fault asked (told_so_far had)) }
-    ensures broken { result ≡ Err Fault.Write → (asked : List (StreamAsked B))
+    ensures broken { result ≡ Err StreamRunFault.Write → (asked : List (StreamAsked B))
         × (HasPlayed B M E job.now (source_between S.left S.taken S.faults source.old source.new)
         asked pcm.new (A.state array.new)
         out.new.rows out.new.told out.new.prints out.new.snapshots
         ⊎ ((had : IsServing job.now.shape job.now.seed asked pcm.new (A.state array.new)
         out.new.rows out.new.told out.new.prints out.new.snapshots)
         × StopsBy B M E job.now (source_between S.left S.taken S.faults source.old source.new)
-        job.now.input Fault.Write asked
+        job.now.input StreamRunFault.Write asked
         × GoesAsFarAs B M E job.now (source_between S.left S.taken S.faults source.old source.new)
-        Fault.Write asked (told_so_far had))) }
+        StreamRunFault.Write asked (told_so_far had))) }
     ensures prints { out.new.prints ≡ out.old.prints }
-    ensures written { result ≢ Err Fault.Write → (before : Option (List ℕ)) (first : ℕ)
+    ensures written { result ≢ Err StreamRunFault.Write → (before : Option (List ℕ)) (first : ℕ)
         → IsPrinting K.written K.faults before first out.old
         → Appends before (K.written out.new.sink) (text_told out.new) }
-    ensures part { result ≡ Err Fault.Write → (before : Option (List ℕ)) (first : ℕ)
+    ensures part { result ≡ Err StreamRunFault.Write → (before : Option (List ℕ)) (first : ℕ)
         → IsPrinting K.written K.faults before first out.old
         → AppendsPrefix before (K.written out.new.sink) (text_told out.new)
         × Rose first (K.faults out.new.sink) }
@@ -290,7 +290,7 @@ fn play<
     let stopped = has_stopped(job.until, out);
     end(pcm, array, stays_off(job.end), behind, out);
     let Ok(()) = out.flush() else {
-        return Err(Fault::Write);
+        return Err(StreamRunFault::Write);
     };
     Ok(done(stopped, out))
 }
@@ -310,7 +310,7 @@ pub fn stream<
     array: &mut A,
     source: &mut S,
     out: Box<K>,
-) -> (Result<Done, Fault>, Box<K>)
+) -> (Result<StreamDone, StreamRunFault>, Box<K>)
     requires layout { IsLayout B M E }
     requires wide { 16 ≤ B }
     requires job { IsStreamJob job.now }
@@ -326,7 +326,7 @@ pub fn stream<
     ended_streams_are_kept();
     let (mut pcm, text) = match take_memory::<B, M, E, A>(alloc, job, array) {
         Ok(taken) => taken,
-        Err(_) => return (Err(Fault::NoMemory), out),
+        Err(_) => return (Err(StreamRunFault::NoMemory), out),
     };
     let shown = shown_of(job.shape.raw(), job.seed, job.print);
     let mut printer = RowPrinter::<B, K>::new(out, text, shown);
@@ -338,6 +338,6 @@ pub fn stream<
     let (mut out, mut text) = printer.end();
     match print_closing(job, &pcm, array, rows, &counts, &mut text, &mut *out) {
         Ok(()) => (Ok(done), out),
-        Err(_) => (Err(Fault::Write), out),
+        Err(_) => (Err(StreamRunFault::Write), out),
     }
 }

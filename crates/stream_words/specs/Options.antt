@@ -6,10 +6,10 @@ use Rattle.trace_gen.specs.{Generated.stream_lines, declared.mix.Mix.Mix}
 use Rattle.command_line.specs.{Options.{mix_within, one_of_two, with_some}, declared.job.Input.Input, declared.job.Input.TheVariants.{Source, Drawn}}
 use Rattle.drawn_parts.specs.declared.Banks.{Banks}
 use Rattle.stream_words.specs.{declared.job.End.End, declared.job.End.TheVariants.{Drain, Off}, declared.job.Skip.Skip, declared.job.StreamPrint.StreamPrint}
-use Rattle.stream_words.specs.{declared.job.StreamPrint.TheVariants.{Rows, Summary, Wear, Lines, Map, Energy, Image, Snapshots}, declared.job.Tell.Tell, declared.job.Until.Until}
+use Rattle.stream_words.specs.{declared.job.StreamPrint.TheVariants.{Rows, Summary, Wear, Lines, Map, Energy, Image, Snapshots}, declared.job.Tell.Tell, declared.job.StreamUntil.StreamUntil}
 use Rattle.stream_words.specs.declared.job.Skip.TheVariants as skip
 use Rattle.stream_words.specs.declared.job.Tell.TheVariants as tell
-use Rattle.stream_words.specs.declared.job.Until.TheVariants as up_to
+use Rattle.stream_words.specs.declared.job.StreamUntil.TheVariants as up_to
 
 -- what a stream writes in the end alone
 abbrev pub closing_of : Text → Option StreamPrint
@@ -123,7 +123,7 @@ abbrev pub end_of : Option Text → Option End
 end_of text = one_of_two (codes "drain") Drain (codes "off") Off text
 
 -- up to where the rows are served
-abbrev pub until_of : Option Text → Option Until
+abbrev pub until_of : Option Text → Option StreamUntil
 until_of text = one_of_two (codes "end") up_to.End (codes "refused") up_to.Refused text
 
 -- a mix whose ticks can't go beyond the latest one

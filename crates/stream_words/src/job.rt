@@ -25,7 +25,7 @@ pub struct StreamJob {
     /// What becomes of the module behind the last row.
     pub end: End,
     /// Up to where the rows are served.
-    pub until: Until,
+    pub until: StreamUntil,
     /// The banks whose rows are served, where they are drawn.
     pub banks: Banks,
 }
@@ -107,7 +107,7 @@ pub enum End {
 
 /// Up to where the rows of a stream are served.
 #[derive(Clone, Copy, Drop, PartialEq, Eq)]
-pub enum Until {
+pub enum StreamUntil {
     /// To their end.
     End,
     /// Up to the first row that is refused, which is then the last; to their end where none is.

@@ -9,5 +9,5 @@ mod read;
 mod table;
 
 pub use arrays::{counts_energy, keeps_totals};
-pub use job::{End, Skip, StreamJob, StreamPrint, Tell, Until};
+pub use job::{End, Skip, StreamJob, StreamPrint, StreamUntil, Tell};
 pub use read::read_stream_job;

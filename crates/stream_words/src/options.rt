@@ -5,7 +5,7 @@ ghost use Rattle.command_line.specs.Options.{with_some};
 ghost use Rattle.trace_gen.specs.Generated.{IsLongMix};
 ghost use Rattle.stream_words.specs.Options.{IsPrint, all_banks_of, bank_of, banks_of, closing_of, end_of, every_of, long_mix_of, plain_of, print_of, report_of, skip_of, skipping_of, snapshots_of, some_banks_of, tell_of, told_rows, until_of, whole_of, without};
 
-use crate::job::{End, Skip, StreamPrint, Tell, Until};
+use crate::job::{End, Skip, StreamPrint, StreamUntil, Tell};
 use clap::ArgMatches;
 use command_line::Input;
 use command_line::options::{mix_within, value};
@@ -193,13 +193,13 @@ pub(crate) fn end(matches: &ArgMatches<'_>) -> Option<End>
 }
 
 // Up to where the rows are served.
-pub(crate) fn until(matches: &ArgMatches<'_>) -> Option<Until>
+pub(crate) fn until(matches: &ArgMatches<'_>) -> Option<StreamUntil>
     ensures { result ≡ until_of (first_of (codes "until") (rows_of (found_of matches.now))) }
 {
     match value(matches, "until") {
-        None => Some(Until::End),
-        Some("end") => Some(Until::End),
-        Some("refused") => Some(Until::Refused),
+        None => Some(StreamUntil::End),
+        Some("end") => Some(StreamUntil::End),
+        Some("refused") => Some(StreamUntil::Refused),
         Some(_) => None,
     }
 }

@@ -2,7 +2,7 @@ use crate::expected::compare;
 use command_line::{Input, LineSize, Refusal};
 use module_shape::{Home, Policy, RawShape};
 use std::alloc::{AllocError, Global};
-use stream_words::{End, Skip, StreamJob, StreamPrint, Tell, Until, read_stream_job};
+use stream_words::{End, Skip, StreamJob, StreamPrint, StreamUntil, Tell, read_stream_job};
 use trace_gen::Mix;
 
 // The job of a line of words.
@@ -97,7 +97,7 @@ fn the_cells_of_a_stream_are_those_of_a_run(rt: HostRuntime) {
 const PLAIN: StreamPrint = StreamPrint::Rows(Tell::Nothing);
 
 // What a line of words prints, where its rows come from, how it ends, and where.
-fn ends(alloc: Global, line: &str) -> Option<(StreamPrint, Input, End, Until)> {
+fn ends(alloc: Global, line: &str) -> Option<(StreamPrint, Input, End, StreamUntil)> {
     match read(alloc, line) {
         Ok(Ok(job)) => Some((job.print, job.input, job.end, job.until)),
         _ => None,
@@ -122,11 +122,16 @@ const LATEST: Mix = Mix {
 };
 
 // Two dashes end the options.
-static ENDS: [(&str, (StreamPrint, Input, End, Until)); 18] = [
-    ("", (PLAIN, Input::Source, End::Drain, Until::End)),
+static ENDS: [(&str, (StreamPrint, Input, End, StreamUntil)); 18] = [
+    ("", (PLAIN, Input::Source, End::Drain, StreamUntil::End)),
     (
         "--print image --input drawn --rows 4000000000 --write-percent 100 --cuts 4000000000 --step 274 --hot 3 --end off",
-        (StreamPrint::Image, Input::Drawn(MOST), End::Off, Until::End),
+        (
+            StreamPrint::Image,
+            Input::Drawn(MOST),
+            End::Off,
+            StreamUntil::End,
+        ),
     ),
     (
         "--input=drawn --rows 67108864 --step 16384 --print=summary --end=drain",
@@ -134,7 +139,7 @@ static ENDS: [(&str, (StreamPrint, Input, End, Until)); 18] = [
             StreamPrint::Summary,
             Input::Drawn(LATEST),
             End::Drain,
-            Until::End,
+            StreamUntil::End,
         ),
     ),
     (
@@ -143,12 +148,12 @@ static ENDS: [(&str, (StreamPrint, Input, End, Until)); 18] = [
             StreamPrint::Wear(Skip::Nothing),
             Input::Source,
             End::Off,
-            Until::End,
+            StreamUntil::End,
         ),
     ),
     (
         "--print rows",
-        (PLAIN, Input::Source, End::Drain, Until::End),
+        (PLAIN, Input::Source, End::Drain, StreamUntil::End),
     ),
     (
         "--print lines",
@@ -156,7 +161,7 @@ static ENDS: [(&str, (StreamPrint, Input, End, Until)); 18] = [
             StreamPrint::Lines(Skip::Nothing),
             Input::Source,
             End::Drain,
-            Until::End,
+            StreamUntil::End,
         ),
     ),
     (
@@ -165,7 +170,7 @@ static ENDS: [(&str, (StreamPrint, Input, End, Until)); 18] = [
             StreamPrint::Lines(Skip::Unpulsed),
             Input::Source,
             End::Drain,
-            Until::End,
+            StreamUntil::End,
         ),
     ),
     (
@@ -174,7 +179,7 @@ static ENDS: [(&str, (StreamPrint, Input, End, Until)); 18] = [
             StreamPrint::Wear(Skip::Unpulsed),
             Input::Source,
             End::Drain,
-            Until::End,
+            StreamUntil::End,
         ),
     ),
     (
@@ -183,7 +188,7 @@ static ENDS: [(&str, (StreamPrint, Input, End, Until)); 18] = [
             StreamPrint::Wear(Skip::Nothing),
             Input::Source,
             End::Drain,
-            Until::End,
+            StreamUntil::End,
         ),
     ),
     (
@@ -192,7 +197,7 @@ static ENDS: [(&str, (StreamPrint, Input, End, Until)); 18] = [
             StreamPrint::Snapshots(100_000),
             Input::Source,
             End::Drain,
-            Until::End,
+            StreamUntil::End,
         ),
     ),
     (
@@ -201,24 +206,34 @@ static ENDS: [(&str, (StreamPrint, Input, End, Until)); 18] = [
             StreamPrint::Snapshots(u32::MAX),
             Input::Source,
             End::Drain,
-            Until::End,
+            StreamUntil::End,
         ),
     ),
     (
         "--until refused --end=off",
-        (PLAIN, Input::Source, End::Off, Until::Refused),
+        (PLAIN, Input::Source, End::Off, StreamUntil::Refused),
     ),
     (
         "--until=end",
-        (PLAIN, Input::Source, End::Drain, Until::End),
+        (PLAIN, Input::Source, End::Drain, StreamUntil::End),
     ),
     (
         "--print map",
-        (StreamPrint::Map, Input::Source, End::Drain, Until::End),
+        (
+            StreamPrint::Map,
+            Input::Source,
+            End::Drain,
+            StreamUntil::End,
+        ),
     ),
     (
         "--print energy",
-        (StreamPrint::Energy, Input::Source, End::Drain, Until::End),
+        (
+            StreamPrint::Energy,
+            Input::Source,
+            End::Drain,
+            StreamUntil::End,
+        ),
     ),
     (
         "--tell shape",
@@ -226,7 +241,7 @@ static ENDS: [(&str, (StreamPrint, Input, End, Until)); 18] = [
             StreamPrint::Rows(Tell::Shape),
             Input::Source,
             End::Drain,
-            Until::End,
+            StreamUntil::End,
         ),
     ),
     (
@@ -235,12 +250,12 @@ static ENDS: [(&str, (StreamPrint, Input, End, Until)); 18] = [
             StreamPrint::Rows(Tell::Module),
             Input::Source,
             End::Drain,
-            Until::End,
+            StreamUntil::End,
         ),
     ),
     (
         "--tell=nothing --print rows",
-        (PLAIN, Input::Source, End::Drain, Until::End),
+        (PLAIN, Input::Source, End::Drain, StreamUntil::End),
     ),
 ];
 

@@ -6,7 +6,7 @@ use cell_rows::LineEnergy;
 use pcm_io::{MemSink, MemSource, NeverFailSource, Text};
 use result_rows::{Outcome, Outcomes};
 use row_printer::{
-    ArrayWear, Backlog, Mark, Newest, RowPrinter, Shown, Snapshot, ToldRest, ToldShape,
+    ArrayWear, Backlog, Mark, PeekedLine, RowPrinter, Shown, Snapshot, ToldRest, ToldShape,
 };
 use std::alloc::{AllocError, Global};
 use std::process::Abort;
@@ -242,7 +242,7 @@ fn told(alloc: Global, prints: Shown) -> Result<(Box<MemSink>, (u32, u32, bool))
     out.set(1, Outcome::Stored { tick: 9, place: 3 });
     out.bank(12, EXHAUSTED);
     out.looked(12, WORN);
-    let newest = Newest {
+    let newest = PeekedLine {
         line: 67_108_863,
         bytes: [0x0f; 64],
     };

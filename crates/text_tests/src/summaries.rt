@@ -1,7 +1,7 @@
 use crate::expected::{assert_made, compare};
 use pcm_io::Text;
 use result_rows::{Outcome, Results};
-use run_text::{Counts, add_pulses, any_short, is_short, print_summary};
+use run_text::{OutcomeCounts, add_pulses, any_short, is_short, print_summary};
 use std::alloc::{AllocError, Global};
 
 // A write, and a read that was forwarded from the queue.
@@ -17,7 +17,13 @@ fn two(alloc: Global) -> Result<Results<64>, AllocError> {
 fn summary(alloc: Global) -> Result<Text, AllocError> {
     let results = two(alloc)?;
     let mut text = Text::new(alloc, 512)?;
-    print_summary(results.rows(), &Counts::of(&results), 0, 1, &mut text);
+    print_summary(
+        results.rows(),
+        &OutcomeCounts::of(&results),
+        0,
+        1,
+        &mut text,
+    );
     Ok(text)
 }
 
@@ -36,7 +42,7 @@ fn a_write_and_a_read_forwarded_from_the_queue(rt: HostRuntime) {
     compare(&rt, is_either_short(rt.alloc()), Ok(false));
 }
 
-const COUNTS: Counts = Counts {
+const COUNTS: OutcomeCounts = OutcomeCounts {
     stored: 1,
     merged: 2,
     queued: 3,
@@ -71,7 +77,7 @@ fn refused(alloc: Global) -> Result<([u32; 4], [bool; 2]), AllocError> {
     results.set(3, Outcome::Cut { tick: 9 });
     let unset = any_short(&results);
     results.set(2, Outcome::Full { tick: 0 });
-    let counts = Counts::of(&results);
+    let counts = OutcomeCounts::of(&results);
     let counted = [counts.merged, counts.full, counts.cut, counts.lost];
     Ok((counted, [unset, any_short(&results)]))
 }

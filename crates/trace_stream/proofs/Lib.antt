@@ -4,6 +4,7 @@ pub mod PlainNext
 pub mod Gathering
 pub mod Marks
 pub mod Steps
+pub mod Requests
 pub mod KeptRecords
 pub mod Judging
 pub mod Rows

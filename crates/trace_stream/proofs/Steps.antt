@@ -22,6 +22,13 @@ pub goes-decides : (s0 s1 s2 : State) (fs0 fs1 fs2 : List (List ℕ)) (f0 f1 t0 
 goes-decides s0 s1 s2 fs0 fs1 fs2 f0 f1 t0 t1 t2 a b =
     record { same = λ more. subst (λ (o : Option Read). IsKeptOf o fs2 s2 (t2 ++ more)) (sym (a.same more)) (b.same more) }
 
+-- before any step
+pub goes-first : (s : State) (fields : List (List ℕ)) (field text : List ℕ) → fields ≡ [] → field ≡ [] → GoesOn s [] [] (text ++ []) s fields field text
+goes-first s fields field text none empty = record {
+  same = λ more. rw (none, empty, append-nil text) refl;
+  decided = λ few more. rw (none, append-nil text) refl;
+}
+
 -- more bytes, where all that arrived were read
 pub goes-more : (s0 s : State) (fs0 fs : List (List ℕ)) (f0 f t0 t x : List ℕ) → t ≡ []
     → GoesOn s0 fs0 f0 t0 s fs f t → GoesOn s0 fs0 f0 (t0 ++ x) s fs f x

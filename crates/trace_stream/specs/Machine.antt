@@ -4,9 +4,9 @@ use Rattle.csv.specs.declared.parser.State.{State}
 use Rattle.csv.specs.declared.parser.State.TheVariants as st
 use Rattle.csv.specs.declared.parser.Action as csv
 use Rattle.csv.specs.declared.parser.Action.TheVariants as act
-use Rattle.trace_stream.specs.{declared.machine.Move.Move, declared.machine.Place.Place}
+use Rattle.trace_stream.specs.{declared.machine.ByteMove.ByteMove, declared.machine.Place.Place}
 use Rattle.trace_stream.specs.declared.machine.Place.TheVariants as place
-use Rattle.trace_stream.specs.declared.machine.Move.TheVariants as move
+use Rattle.trace_stream.specs.declared.machine.ByteMove.TheVariants as move
 
 -- `csv`'s name of a place in a record
 abbrev pub state_of : Place → State
@@ -18,14 +18,14 @@ state_of place.AfterQuote = st.AfterQuote
 state_of place.AfterCr = st.AfterCr
 
 -- `csv`'s name of what a byte does
-abbrev pub action_of : Move → csv.Action
+abbrev pub action_of : ByteMove → csv.Action
 action_of move.Skip = act.Skip
 action_of move.Keep = act.Copy
 action_of move.EndField = act.EndField
 action_of move.EndRecord = act.EndRecord
 
 -- a place and what the byte before it did, as `csv` names them
-abbrev pub moved : Place × Move → State × csv.Action
+abbrev pub moved : Place × ByteMove → State × csv.Action
 moved m = (state_of m.0, action_of m.1)
 
 -- whether a plain byte only joins the field at hand

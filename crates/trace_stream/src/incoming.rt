@@ -7,6 +7,7 @@ ghost use Rattle.pcm_io.specs.Faults.{Rose};
 ghost use Rattle.pcm_io.specs.Taking.{Takes};
 ghost use Rattle.trace_stream.specs.Arrived.{Comes, StaysEnded};
 ghost use Rattle.trace_stream.specs.Kept.{LacksHeader};
+ghost use Rattle.trace_stream.specs.Requests.{AsksWhere, most_asked};
 
 use pcm_io::{Failed, Source};
 use std::marker::Model;
@@ -75,8 +76,11 @@ impl Incoming {
             × Takes (S.left source.old) (S.left source.new)
             (S.taken source.old) (S.taken source.new) bytes
             × ((more : List ℕ) → Comes begun.ended more
-            → strip_bom (bytes ++ more) ≡ begun.bytes ++ more)) }
+            → strip_bom (bytes ++ more) ≡ begun.bytes ++ more)
+            × (times : ℕ) × AsksWhere S.left S.taken LacksHeader source.old times bytes source.new) }
         ensures end { IfOk result (λ begun. begun.ended ≡ true → IsAtEnd (S.left source.new)) }
+        ensures asks { OnErr result ((times : ℕ) × (bytes : List ℕ)
+            × AsksWhere S.left S.taken LacksHeader source.old times bytes source.new) }
         ensures sparing { OnErr result ((bytes : List ℕ)
             × Takes (S.left source.old) (S.left source.new)
             (S.taken source.old) (S.taken source.new) bytes × LacksHeader bytes) }
@@ -127,6 +131,8 @@ impl Incoming {
         requires { self.old.bytes ≡ [] }
         ensures takes { OnOk result (Takes (S.left source.old) (S.left source.new)
             (S.taken source.old) (S.taken source.new) self.new.bytes) }
+        ensures few { OnOk result (length self.new.bytes ≤ most_asked) }
+        ensures rests { self.old.ended ≡ true → source.new ≡ source.old }
         ensures some { IfOk result (λ some. some ≡ true
             → (1 ≤ length self.new.bytes) × (self.new.ended ≡ false)) }
         ensures none { IfOk result (λ some. some ≡ false

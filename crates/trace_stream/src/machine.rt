@@ -17,79 +17,79 @@ pub enum Place {
 
 /// What a byte does.
 #[derive(Clone, Copy, PartialEq, Eq)]
-pub enum Move {
+pub enum ByteMove {
     Skip,
     Keep,
     EndField,
     EndRecord,
 }
 
-fn in_field(byte: u8) -> (Place, Move)
+fn in_field(byte: u8) -> (Place, ByteMove)
     ensures { moved result ≡ Spec.in_field default_config byte }
 {
     if byte == b',' {
-        (Place::StartField, Move::EndField)
+        (Place::StartField, ByteMove::EndField)
     } else if byte == b'\r' {
-        (Place::AfterCr, Move::EndRecord)
+        (Place::AfterCr, ByteMove::EndRecord)
     } else if byte == b'\n' {
-        (Place::StartRecord, Move::EndRecord)
+        (Place::StartRecord, ByteMove::EndRecord)
     } else {
-        (Place::InField, Move::Keep)
+        (Place::InField, ByteMove::Keep)
     }
 }
 
-fn start_field(byte: u8) -> (Place, Move)
+fn start_field(byte: u8) -> (Place, ByteMove)
     ensures { moved result ≡ Spec.start_field default_config byte }
 {
     if byte == b'"' {
-        (Place::InQuoted, Move::Skip)
+        (Place::InQuoted, ByteMove::Skip)
     } else {
         in_field(byte)
     }
 }
 
-fn start_record(byte: u8) -> (Place, Move)
+fn start_record(byte: u8) -> (Place, ByteMove)
     ensures { moved result ≡ Spec.start_record default_config byte }
 {
     if byte == b'\r' || byte == b'\n' {
-        (Place::StartRecord, Move::Skip)
+        (Place::StartRecord, ByteMove::Skip)
     } else {
         start_field(byte)
     }
 }
 
-fn in_quoted(byte: u8) -> (Place, Move)
+fn in_quoted(byte: u8) -> (Place, ByteMove)
     ensures { moved result ≡ Spec.step default_config (state_of Place.InQuoted) byte }
 {
     if byte == b'"' {
-        (Place::AfterQuote, Move::Skip)
+        (Place::AfterQuote, ByteMove::Skip)
     } else {
-        (Place::InQuoted, Move::Keep)
+        (Place::InQuoted, ByteMove::Keep)
     }
 }
 
-fn after_quote(byte: u8) -> (Place, Move)
+fn after_quote(byte: u8) -> (Place, ByteMove)
     ensures { moved result ≡ Spec.step default_config (state_of Place.AfterQuote) byte }
 {
     if byte == b'"' {
-        (Place::InQuoted, Move::Keep)
+        (Place::InQuoted, ByteMove::Keep)
     } else {
         in_field(byte)
     }
 }
 
-fn after_cr(byte: u8) -> (Place, Move)
+fn after_cr(byte: u8) -> (Place, ByteMove)
     ensures { moved result ≡ Spec.step default_config (state_of Place.AfterCr) byte }
 {
     if byte == b'\n' {
-        (Place::StartRecord, Move::Skip)
+        (Place::StartRecord, ByteMove::Skip)
     } else {
         start_record(byte)
     }
 }
 
 /// Where the next byte stands, and what this one does.
-pub fn step(place: Place, byte: u8) -> (Place, Move)
+pub fn step(place: Place, byte: u8) -> (Place, ByteMove)
     ensures { moved result ≡ Spec.step default_config (state_of place) byte }
 {
     match place {

@@ -8,11 +8,12 @@ ghost use Rattle.trace_reader.specs.Plain.{IsPlainRow};
 ghost use Rattle.trace_stream.specs.Arrived.{StaysEnded};
 ghost use Rattle.trace_stream.specs.Machine.{state_of};
 ghost use Rattle.trace_stream.specs.Kept.{Decided, FindsKept, GoesOn, decides, next_kept};
+ghost use Rattle.trace_stream.specs.Requests.{AsksWhere, LacksRow};
 
 use crate::fault::StreamFault;
 use crate::incoming::Incoming;
 use crate::kept::Gathered;
-use crate::machine::{Move, Place, ends_at_end, step, takes_plain};
+use crate::machine::{ByteMove, Place, ends_at_end, step, takes_plain};
 use pcm_io::Source;
 use trace_reader::{PlainRow, plain_end, plain_row};
 
@@ -73,16 +74,16 @@ impl Records {
         self.incoming.pass(1);
         self.place = place;
         match what {
-            Move::Skip => false,
-            Move::Keep => {
+            ByteMove::Skip => false,
+            ByteMove::Keep => {
                 self.kept.keep(&[byte]);
                 false
             }
-            Move::EndField => {
+            ByteMove::EndField => {
                 self.kept.end_field();
                 false
             }
-            Move::EndRecord => {
+            ByteMove::EndRecord => {
                 self.kept.end_field();
                 true
             }
@@ -160,6 +161,9 @@ impl Records {
             self.new.kept.fields (state_of self.new.place) self.new.incoming) }
         ensures prompt { decides (state_of self.old.place) 0 self.old.incoming.bytes ≡ true
             → source.new ≡ source.old }
+        ensures asks { (times : ℕ) × (bytes : List ℕ) × AsksWhere S.left S.taken
+            (LacksRow (state_of self.old.place) self.old.incoming)
+            source.old times bytes source.new }
         ensures end { OnOk result ((self.old.incoming.ended ≡ true → IsAtEnd (S.left source.old))
             → self.new.incoming.ended ≡ true → IsAtEnd (S.left source.new)) }
         ensures sparing { result ≡ Err StreamFault.Read → (bytes : List ℕ)

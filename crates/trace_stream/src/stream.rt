@@ -7,6 +7,7 @@ ghost use Rattle.trace_reader.specs.Events.{IsEventFor};
 ghost use Rattle.trace_stream.specs.Arrived.{StaysEnded};
 ghost use Rattle.trace_stream.specs.Asked.{IsAskedFor, IsUnreached, NamesRow, rows_after, tick_asked};
 ghost use Rattle.trace_stream.specs.Kept.{LacksHeader, decides};
+ghost use Rattle.trace_stream.specs.Requests.{AsksWhere, LacksRow};
 ghost use Rattle.trace_stream.specs.declared.asked.Asked.TheVariants.{Happens};
 ghost use Rattle.trace_stream.specs.Stream.{AsksNext, HasFault, HasFront, IsOfText, IsPlainNext, Opens, asked_from, front_from, front_of, is_past, stream_of};
 
@@ -76,6 +77,10 @@ impl TraceStream {
         ensures sparing { result ≡ Err StreamFault.Read → (bytes : List ℕ)
             × Takes (S.left source.old) (S.left source.new)
             (S.taken source.old) (S.taken source.new) bytes × LacksHeader bytes }
+
+        // The source is asked only where no header has come whole.
+        ensures asks { (times : ℕ) × (bytes : List ℕ)
+            × AsksWhere S.left S.taken LacksHeader source.old times bytes source.new }
         ensures read { result ≡ Err StreamFault.Read
             → Rose (S.faults source.old) (S.faults source.new) }
         ensures endless { result ≡ Err StreamFault.Endless
@@ -154,6 +159,10 @@ impl TraceStream {
             (S.taken source.old) (S.taken source.new) bytes
             × (self.old.arrived.ended ≡ false)
             × (decides self.old.state 0 (self.old.arrived.bytes ++ bytes) ≡ false) }
+
+        // The source is asked only where what has come decides of no row, once more each time that the next piece doesn't either.
+        ensures asks { (times : ℕ) × (bytes : List ℕ) × AsksWhere S.left S.taken
+            (LacksRow self.old.state self.old.arrived) source.old times bytes source.new }
         ensures lawful { IfOk result (λ next. IfSome next
             (λ asked. IsAskedFor self.old.lines self.old.tick asked)) }
         ensures waits { IfOk result (λ next. IfSome next

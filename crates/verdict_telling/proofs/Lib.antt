@@ -7,4 +7,4 @@ mod Earning
 mod Tables
 mod Named
 mod Telling
-mod Sizes
+pub mod Sizes

@@ -1,12 +1,12 @@
 // Runs over traces that a seed draws, on seeded cells that wear out.
-use crate::harness::{Answer, failing_source, run, source_of};
+use crate::harness::{RunAnswer, failing_source, run, source_of};
 use pcm_cells::MemArray;
 use std::alloc::{AllocError, Global};
 use std::process::Abort;
 use std::test::Fail;
 
 // Runs a line of words over seeded arrays, the source giving these bytes or, where none are given, failing at once.
-fn run_seeded(alloc: Global, words: &str, bytes: Option<&[u8]>) -> Result<Answer, AllocError> {
+fn run_seeded(alloc: Global, words: &str, bytes: Option<&[u8]>) -> Result<RunAnswer, AllocError> {
     let source = match bytes {
         Some(bytes) => source_of(alloc, bytes)?,
         None => failing_source(alloc)?,
@@ -19,19 +19,19 @@ fn run_seeded(alloc: Global, words: &str, bytes: Option<&[u8]>) -> Result<Answer
 const CELLS: &str = "--spares 3 --lo 20 --hi 90 --misses 2";
 
 // A trace that is generated.
-fn generate(alloc: Global, shape: &str, mix: &str) -> Result<Answer, AllocError> {
+fn generate(alloc: Global, shape: &str, mix: &str) -> Result<RunAnswer, AllocError> {
     let words = format!(in alloc; "gen {shape} {mix}")?;
     run_seeded(alloc, words.as_str(), None)
 }
 
 // What a run makes of the trace that was generated.
-fn read_back(alloc: Global, shape: &str, generated: &Answer) -> Result<Answer, AllocError> {
+fn read_back(alloc: Global, shape: &str, generated: &RunAnswer) -> Result<RunAnswer, AllocError> {
     let words = format!(in alloc; "run {shape} {CELLS}")?;
     run_seeded(alloc, words.as_str(), Some(generated.out().as_bytes()))
 }
 
 // What a run makes of a trace that it draws.
-fn draw(alloc: Global, shape: &str, mix: &str) -> Result<Answer, AllocError> {
+fn draw(alloc: Global, shape: &str, mix: &str) -> Result<RunAnswer, AllocError> {
     let words = format!(in alloc; "run {shape} {CELLS} --input drawn {mix}")?;
     run_seeded(alloc, words.as_str(), None)
 }

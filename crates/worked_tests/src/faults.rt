@@ -1,5 +1,5 @@
 // A source that is too long, an output that breaks off, and the adapters of std.
-use crate::harness::{Answer, SMALL, run, source_of};
+use crate::harness::{RunAnswer, SMALL, run, source_of};
 use pcm_cells::MemArray;
 use pcm_io::{MemSource, StdSink, StdSource};
 use pcm_top::pcm_run;
@@ -7,7 +7,7 @@ use std::alloc::{AllocError, Global};
 use std::test::Fail;
 
 // Runs a small module over seeded cells.
-fn run_small(alloc: Global, source: MemSource, out_fails: &[u32]) -> Result<Answer, AllocError> {
+fn run_small(alloc: Global, source: MemSource, out_fails: &[u32]) -> Result<RunAnswer, AllocError> {
     let mut array = MemArray::new();
     let mut wide = MemArray::new();
     run(alloc, SMALL, &mut array, &mut wide, source, out_fails)

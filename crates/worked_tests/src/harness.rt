@@ -15,13 +15,13 @@ const SINK_ROOM: usize = 1_048_576;
 
 /// What a run answered.
 #[derive(Drop)]
-pub struct Answer {
+pub struct RunAnswer {
     pub status: u8,
     out: MemSink,
     err: MemSink,
 }
 
-impl Answer {
+impl RunAnswer {
     /// The output.
     pub fn out(&self) -> &str {
         str::from_utf8(self.out.written()).unwrap_or("no text")
@@ -75,7 +75,7 @@ pub fn run<A: CellArray<64, 8>, V: CellArray<128, 16>>(
     wide: &mut V,
     mut source: MemSource,
     out_fails: &[u32],
-) -> Result<Answer, AllocError> {
+) -> Result<RunAnswer, AllocError> {
     let words = words_of(alloc, words)?;
     let mut out = sink(alloc, out_fails)?;
     let mut err = sink(alloc, &[])?;
@@ -88,5 +88,5 @@ pub fn run<A: CellArray<64, 8>, V: CellArray<128, 16>>(
         &mut out,
         &mut err,
     );
-    Ok(Answer { status, out, err })
+    Ok(RunAnswer { status, out, err })
 }

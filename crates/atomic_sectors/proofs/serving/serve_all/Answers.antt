@@ -1,16 +1,16 @@
 use Rattle.std.proofs.Common.{◌≡◌, ◌+◌, List, [], ◌∷◌, ◌++◌, take, refl, sym, ◌∙◌, ap, subst}
 use Rattle.std.proofs.lemmas.List.{take_more, take_all}
-use Rattle.atomic_sectors.specs.{Serving.ServeAll, Stops.{RoseBy, stops_in}, declared.serving.Answer.Answer, declared.serving.Request.Request}
+use Rattle.atomic_sectors.specs.{Serving.ServeAll, Stops.{RoseBy, stops_in}, declared.serving.SectorAnswer.SectorAnswer, declared.serving.SectorRequest.SectorRequest}
 use Rattle.atomic_sectors.proofs.{Runs.{serve_more, whole_known}, Stopping.{stops-more, rose-both, rose-none}}
 use Rattle.atomic_sectors.proofs.serving.serve_all.Goals as goal
 
 pub loop-request-init : goal.loop-request-init
 loop-request-init g c = record {
   known = c.requires.whole;
-  stops = subst (λ (given : List (Answer g.row.B)). RoseBy (stops_in given) (g.L.Lines.stops c.args.lines.now) (g.L.Lines.stops c.args.lines.now))
+  stops = subst (λ (given : List (SectorAnswer g.row.B)). RoseBy (stops_in given) (g.L.Lines.stops c.args.lines.now) (g.L.Lines.stops c.args.lines.now))
       (sym c.new-answers.ensures.items) (rose-none _);
   kind = refl;
-  served = λ before have. (before, subst (λ (given : List (Answer g.row.B)). ServeAll g.row.B c.args.layout.block [] given before before) (sym c.new-answers.ensures.items) refl, have);
+  served = λ before have. (before, subst (λ (given : List (SectorAnswer g.row.B)). ServeAll g.row.B c.args.layout.block [] given before before) (sym c.new-answers.ensures.items) refl, have);
 }
 
 pub returns-in_err-push-clause-whole : goal.returns-in_err-push-clause-whole
@@ -34,8 +34,8 @@ loop-request-preserved g c =
           let one = c.serve-answer.ensures.serves so_far.0 so_far.2 in
           let all = serve_more g.row.B c.args.layout.block (take i requests) c.loop-request.answers.items r a before so_far.0 one.0 so_far.1 one.1 in (
             one.0,
-            subst (λ (rs : List (Request g.row.B)). ServeAll g.row.B c.args.layout.block rs c.push.new.self.items before one.0) more
-                (subst (λ (given : List (Answer g.row.B)). ServeAll g.row.B c.args.layout.block (take i requests ++ r ∷ []) given before one.0) (sym items) all),
+            subst (λ (rs : List (SectorRequest g.row.B)). ServeAll g.row.B c.args.layout.block rs c.push.new.self.items before one.0) more
+                (subst (λ (given : List (SectorAnswer g.row.B)). ServeAll g.row.B c.args.layout.block (take i requests ++ r ∷ []) given before one.0) (sym items) all),
             one.2,
           );
     }
@@ -45,7 +45,7 @@ returns-clause-served g c before have =
     let so_far = c.loop-request.invariant.served before have in
     let all : take c.loop-request.request-index c.args.requests.now ≡ c.args.requests.now = take_all c.loop-request.request-index c.args.requests.now c.loop-request-test.false in (
       so_far.0,
-      subst (λ (rs : List (Request g.row.B)). ServeAll g.row.B c.args.layout.block rs c.loop-request.answers.items before so_far.0) all so_far.1,
+      subst (λ (rs : List (SectorRequest g.row.B)). ServeAll g.row.B c.args.layout.block rs c.loop-request.answers.items before so_far.0) all so_far.1,
       so_far.2,
     )
 

@@ -1,6 +1,6 @@
 use Rattle.std.proofs.Common.{List, [], sym, subst}
 use Rattle.atomic_sectors.specs.{Lines.stand, Sectors.Fits}
-use Rattle.disk_rules.specs.{declared.Answer.Answer, declared.Request.Request}
+use Rattle.disk_rules.specs.{declared.DiskAnswer.DiskAnswer, declared.DiskRequest.DiskRequest}
 use Rattle.disk_bytes.specs.Serving.{IsServed}
 use Rattle.module_shape.specs.Limits.{total_of}
 use Rattle.disk_lines.specs.{Lines.{Kind, writes_of}, Serving.bytes_by_rows}
@@ -15,7 +15,7 @@ returns-clause-session g c =
     let array = g.A.CellArray.state now.array in
     let session = c.serve-ended.ensures.session in
     let fits = subst (λ (kind : Kind). Fits g.row.B layout (total_of kind.shape)) (sym c.serve-ended.ensures.kind) c.requires.fits in
-    let kept = λ (asked : List (Request × Answer)) (served : IsServed g.row.B layout asked (writes_of now.puts)).
+    let kept = λ (asked : List (DiskRequest × DiskAnswer)) (served : IsServed g.row.B layout asked (writes_of now.puts)).
     c.no_moment_loses_a_disk.ensures g.row.B g.row.M g.row.E now.module_ array now.heard layout asked c.stands.ensures.shape fits c.stands.ensures.has
     (record {
       writes = served.0;

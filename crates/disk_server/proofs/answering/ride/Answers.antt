@@ -1,6 +1,6 @@
 use Rattle.std.proofs.Common.{List, ◌∷◌, inl, inr, sym, subst, ◌∙◌, arith}
 use Rattle.atomic_sectors.specs.declared.layout.Layout.{Layout}
-use Rattle.disk_rules.specs.{declared.Answer.Answer, declared.Request.Request}
+use Rattle.disk_rules.specs.{declared.DiskAnswer.DiskAnswer, declared.DiskRequest.DiskRequest}
 use Rattle.disk_bytes.specs.Serving.{IsServed}
 use Rattle.disk_server.proofs.Asking.{asked_again, asked_once}
 use Rattle.disk_server.proofs.answering.ride.Goals as goal
@@ -31,7 +31,7 @@ loop-cut-preserved g c =
     record {
       asked = asked_again g.row.B c.args.disk.now.layout request (g.L.Lines.made c.args.lines.now) mid new _ (g.L.Lines.stops c.loop-cut.lines) _ c.loop-cut._cut c.loop-cut.answer answer
           now.asked (sym c.is_cut.ensures ∙ c.if-not-is_cut.false)
-          (subst (λ (l : Layout). (earlier : List (Request × Answer)) → IsServed g.row.B l earlier mid → IsServed g.row.B l ((request, answer) ∷ earlier) new) now.layout
+          (subst (λ (l : Layout). (earlier : List (DiskRequest × DiskAnswer)) → IsServed g.row.B l earlier mid → IsServed g.row.B l ((request, answer) ∷ earlier) new) now.layout
           c.serve-answer-in-loop-cut.ensures.served) c.serve-answer-in-loop-cut.ensures.cause;
       ready = c.serve-answer-in-loop-cut.ensures.ready;
       layout = c.serve-answer-in-loop-cut.ensures.layout ∙ now.layout;

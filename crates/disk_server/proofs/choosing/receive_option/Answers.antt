@@ -2,7 +2,7 @@ use Rattle.std.proofs.Common.{◌++◌, List, ℕ, refl, inr, arith, subst}
 use Rattle.std.proofs.lemmas.Result.{err_from_is_err_and}
 use Rattle.pcm_io.{specs.Taking.Takes, proofs.ByteLemmas.Takes-Takes}
 use Rattle.nbd_frames.specs.Options.{option_bytes}
-use Rattle.disk_server.{specs.declared.phase.Phase.TheVariants.Choosing, proofs.Filling.{amid_before, amid_none, errs}}
+use Rattle.disk_server.{specs.declared.phase.SessionPhase.TheVariants.Choosing, proofs.Filling.{amid_before, amid_none, errs}}
 use Rattle.disk_server.proofs.choosing.receive_option.Goals as goal
 
 pub returns-in_err-told-clause-none : goal.returns-in_err-told-clause-none

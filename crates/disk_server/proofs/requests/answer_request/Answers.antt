@@ -1,7 +1,7 @@
 use Rattle.std.proofs.Common.{ℕ, List, subst}
 use Rattle.std.specs.Prelude.{Result, Ok, Err}
 use Rattle.atomic_sectors.proofs.Stopping.{rose-none}
-use Rattle.disk_rules.specs.declared.Request.{Request}
+use Rattle.disk_rules.specs.declared.DiskRequest.{DiskRequest}
 use Rattle.nbd_frames.specs.declared.replies.Failure.{Failure}
 use Rattle.disk_server.{specs.Answering.WritesOr, specs.Exchanges.Brings, proofs.Moving.writes_or}
 use Rattle.disk_server.proofs.requests.answer_request.Goals as goal
@@ -12,7 +12,7 @@ returns-in-Ok-clause-answered g c =
     let header = c.args.received.now.header in
     record {
       became = Ok (record { request = c.in-Ok.request; cuts = asked.cuts; answer = c.ask-answer.result });
-      becomes = λ bytes brings. (subst (λ (r : Result Request Failure). Brings header bytes r) c.in-Ok.is brings, asked.rides);
+      becomes = λ bytes brings. (subst (λ (r : Result DiskRequest Failure). Brings header bytes r) c.in-Ok.is brings, asked.rides);
       answers = asked.answers;
       stops = asked.stops;
       writes = c.write_answer.ensures.written;
@@ -25,7 +25,7 @@ returns-in-Err-clause-answered g c =
     let now = g.K.Sink.written c.write_all.new.sink in
     record {
       became = Err c.in-Err.failure;
-      becomes = λ bytes brings. subst (λ (r : Result Request Failure). Brings header bytes r) c.in-Err.is brings;
+      becomes = λ bytes brings. subst (λ (r : Result DiskRequest Failure). Brings header bytes r) c.in-Err.is brings;
       answers = λ earlier served. served;
       stops = rose-none (g.L.Lines.stops c.args.lines.now);
       writes = subst (λ (b : List ℕ). WritesOr c.write_all.result was now b) c.reply.ensures

@@ -2,7 +2,7 @@ use Rattle.std.proofs.Common.{◌++◌, List, ℕ, refl, inr, arith, subst}
 use Rattle.std.proofs.lemmas.Result.{err_from_is_err_and}
 use Rattle.pcm_io.{specs.Taking.Takes, proofs.ByteLemmas.Takes-Takes}
 use Rattle.nbd_frames.specs.Requests.{request_bytes}
-use Rattle.disk_server.{specs.declared.phase.Phase.TheVariants.Serving, proofs.Filling.{amid_before, amid_none, errs}}
+use Rattle.disk_server.{specs.declared.phase.SessionPhase.TheVariants.Serving, proofs.Filling.{amid_before, amid_none, errs}}
 use Rattle.disk_server.proofs.requests.receive_request.Goals as goal
 
 pub returns-in_err-request-clause-none : goal.returns-in_err-request-clause-none

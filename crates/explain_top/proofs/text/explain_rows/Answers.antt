@@ -3,8 +3,8 @@ use Rattle.std.proofs.lemmas.Result.{IfOk-weaker}
 use Rattle.trace_reader.proofs.Sizes.{event_fits}
 use Rattle.trace_rows.specs.Rows.{rows_with}
 use Rattle.check_text.proofs.Judged.{checkable}
-use Rattle.verdict_telling.specs.{Explained.Explains, declared.row.Explanation.Explanation}
-use Rattle.explain_top.proofs.{Rows.{told_kept, told_row}, Sizes.{explanation_fits, results_fit}}
+use Rattle.verdict_telling.{specs.Explained.Explains, specs.declared.row.Explanation.Explanation, proofs.Sizes.{explanation_fits, results_fit}}
+use Rattle.explain_top.proofs.Rows.{told_kept, told_row}
 use Rattle.explain_top.proofs.text.explain_rows.Goals as goal
 
 pub explain-requires : goal.explain-requires

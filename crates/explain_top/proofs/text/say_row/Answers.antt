@@ -1,6 +1,7 @@
 use Rattle.std.proofs.Common.{◌≡◌, ◌-◌, Some, length, refl}
 use Rattle.std.{specs.Prelude.slice_get, proofs.lemmas.Option.slice_get_read}
-use Rattle.explain_top.proofs.{Rows.{has_row, index_below, index_most, row_within, says_row}, Sizes.{outcome_fits, results_fit}}
+use Rattle.verdict_telling.proofs.Sizes.{outcome_fits, results_fit}
+use Rattle.explain_top.proofs.Rows.{has_row, index_below, index_most, row_within, says_row}
 use Rattle.explain_top.proofs.text.say_row.Goals as goal
 
 pub overflow_sub-event : goal.overflow_sub-event

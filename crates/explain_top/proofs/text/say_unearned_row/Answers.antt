@@ -1,6 +1,7 @@
 use Rattle.std.proofs.Common.{◌≡◌, ◌-◌, Some, length, refl}
 use Rattle.std.{specs.Prelude.slice_get, proofs.lemmas.Option.slice_get_read}
-use Rattle.explain_top.proofs.{Rows.{has_row, index_below, index_most, says_unearned}, Sizes.{outcome_fits, results_fit}}
+use Rattle.verdict_telling.proofs.Sizes.{outcome_fits, results_fit}
+use Rattle.explain_top.proofs.Rows.{has_row, index_below, index_most, says_unearned}
 use Rattle.explain_top.proofs.text.say_unearned_row.Goals as goal
 
 pub overflow_sub-at : goal.overflow_sub-at

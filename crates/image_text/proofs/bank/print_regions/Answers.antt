@@ -15,7 +15,7 @@ loop-region-preserved g c =
     let few : c.loop-region.region < length (map saved_region c.args.kept.now.regions) =
     omega (arith, length-map c.args.kept.now.regions saved_region, c.shape.ensures.in_range.all_regions, ap (λ (t : BankShape). t.regions) c.shape.ensures.shape) in (
       prints-next g.K.Sink.written g.K.Sink.faults region_bytes (map saved_region c.args.kept.now.regions) _ _ _ c.loop-region.region (saved_region no_region) _ few
-          (ap region_bytes (c.region_image.ensures ∙ ap saved_region c.region.ensures.region ∙ sym (get_or-map saved_region c.args.kept.now.regions c.loop-region.region no_region)))
+          (ap region_bytes (c.region_image.ensures.is ∙ ap saved_region c.region.ensures.region ∙ sym (get_or-map saved_region c.args.kept.now.regions c.loop-region.region no_region)))
           c.loop-region.invariant.0 c.print_region.ensures,
       omega (arith, few),
     )

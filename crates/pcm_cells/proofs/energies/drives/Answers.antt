@@ -1,6 +1,6 @@
 use Rattle.std.proofs.Common.{◌≡◌, ◌+◌, ◌-◌, ◌*◌, ◌∙◌, ◌&&◌, ap, arith, ℕ}
 use Rattle.cell_rows.specs.{Energy.{reset_cells, set_cells}, Rows.cell}
-use Rattle.line_pages.specs.declared.work.Work.TheVariants.{Drives}
+use Rattle.line_pages.specs.declared.work.LineWork.TheVariants.{Drives}
 use Rattle.pcm_cells.proofs.EnergyLemmas.{members-as, members-both}
 use Rattle.pcm_cells.proofs.energies.drives.Goals as goal
 

@@ -1,6 +1,6 @@
 use Rattle.std.proofs.Common.{◌≡◌, ℕ, ◌+◌, ◌-◌, ◌*◌, ◌/◌, ◌≤◌, ◌∙◌, sym, ap, arith}
 use Rattle.cell_rows.specs.{Energy.{reset_cells, set_cells}, Rows.cell}
-use Rattle.line_pages.specs.declared.work.Work.TheVariants.{Drives}
+use Rattle.line_pages.specs.declared.work.LineWork.TheVariants.{Drives}
 use Rattle.pcm_cells.proofs.EnergyLemmas.{driven}
 use Rattle.pcm_cells.proofs.energies.drives_blocks.Goals as goal
 use Rattle.seeded_lines.proofs.SizeLemmas.{blocks_all, blocks_within, data_first, data_within, from_first, row_fits}

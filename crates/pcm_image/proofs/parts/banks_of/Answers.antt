@@ -5,14 +5,14 @@ use Rattle.pcm_image.proofs.parts.banks_of.Goals as goal
 
 pub loop-preserved : goal.loop-preserved
 loop-preserved g c = (
-  rw c.in_ok-push.ensures.items (goes_on (bank_at g.row.B (head_view c.args.head)) c.loop.items.items c.args.head.banks c.loop.counter (cursor c.loop.rest) c.in_ok-item.item (cursor c.in_ok-item.after) (times c.args.head.banks (bank_at g.row.B (head_view c.args.head)) (cursor c.args.fields)) c.loop-test.true c.in_ok-item.ensures.gives c.loop.invariant.0),
+  rw c.in_ok-push.ensures.items (goes_on (bank_at c.args.format g.row.B (head_view c.args.head)) c.loop.items.items c.args.head.banks c.loop.counter (cursor c.loop.rest) c.in_ok-item.item (cursor c.in_ok-item.after) (times c.args.head.banks (bank_at c.args.format g.row.B (head_view c.args.head)) (cursor c.args.fields)) c.loop-test.true c.in_ok-item.ensures.gives c.loop.invariant.0),
   omega (arith, c.loop.invariant.1, c.in_ok-item.ensures.at),
 )
 
 pub returns-clause-gives : goal.returns-clause-gives
-returns-clause-gives g c = is_done (bank_at g.row.B (head_view c.args.head)) c.loop.items.items c.args.head.banks c.loop.counter (cursor c.loop.rest) (times c.args.head.banks (bank_at g.row.B (head_view c.args.head)) (cursor c.args.fields)) c.loop-test.false c.loop.invariant.0
+returns-clause-gives g c = is_done (bank_at c.args.format g.row.B (head_view c.args.head)) c.loop.items.items c.args.head.banks c.loop.counter (cursor c.loop.rest) (times c.args.head.banks (bank_at c.args.format g.row.B (head_view c.args.head)) (cursor c.args.fields)) c.loop-test.false c.loop.invariant.0
 
 pub returns-in_err-item-clause-gives : goal.returns-in_err-item-clause-gives
 returns-in_err-item-clause-gives g c =
     let p = err_from_is_err_and c.from_residual.result c.from_residual.ensures.1 in
-    rw (p.1, p.2) (ends (bank_at g.row.B (head_view c.args.head)) c.in_err-item.field-0.0 c.loop.items.items c.args.head.banks c.loop.counter (cursor c.loop.rest) (times c.args.head.banks (bank_at g.row.B (head_view c.args.head)) (cursor c.args.fields)) c.loop-test.true c.in_err-item.ensures.gives c.loop.invariant.0)
+    rw (p.1, p.2) (ends (bank_at c.args.format g.row.B (head_view c.args.head)) c.in_err-item.field-0.0 c.loop.items.items c.args.head.banks c.loop.counter (cursor c.loop.rest) (times c.args.head.banks (bank_at c.args.format g.row.B (head_view c.args.head)) (cursor c.args.fields)) c.loop-test.true c.in_err-item.ensures.gives c.loop.invariant.0)

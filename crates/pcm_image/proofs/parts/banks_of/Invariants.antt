@@ -4,5 +4,5 @@ use Rattle.pcm_image.proofs.parts.banks_of.Given as goal
 
 abbrev pub invariant-loop : goal.invariant-loop
 invariant-loop g l =
-    (with_front l.items.items (times (l.head.banks - l.counter) (bank_at g.row.B (head_view l.head)) (cursor l.rest)) ≡ times l.head.banks (bank_at g.row.B (head_view l.head)) (cursor l.fields))
-    × (l.rest.at ≤ l.fields.at + 42093 * l.counter)
+    (with_front l.items.items (times (l.head.banks - l.counter) (bank_at l.format g.row.B (head_view l.head)) (cursor l.rest)) ≡ times l.head.banks (bank_at l.format g.row.B (head_view l.head)) (cursor l.fields))
+    × (l.rest.at ≤ l.fields.at + 42629 * l.counter)

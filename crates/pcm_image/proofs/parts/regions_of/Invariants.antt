@@ -4,5 +4,5 @@ use Rattle.pcm_image.proofs.parts.regions_of.Given as goal
 
 abbrev pub invariant-loop : goal.invariant-loop
 invariant-loop l =
-    (with_front l.items.items (times (l.head.regions - l.counter) (region_at (head_view l.head)) (cursor l.rest)) ≡ times l.head.regions (region_at (head_view l.head)) (cursor l.fields))
-    × (l.rest.at ≤ l.fields.at + 6 * l.counter)
+    (with_front l.items.items (times (l.head.regions - l.counter) (region_at l.format (head_view l.head)) (cursor l.rest)) ≡ times l.head.regions (region_at l.format (head_view l.head)) (cursor l.fields))
+    × (l.rest.at ≤ l.fields.at + 10 * l.counter)

@@ -1,6 +1,6 @@
-use Rattle.std.proofs.Common.{◌≡◌, ℕ, List, false, [], ◌∷◌, ◌++◌, ap, ◌∙◌}
+use Rattle.std.proofs.Common.{◌≡◌, ℕ, List, false, [], ◌∷◌, ◌++◌, ap, ◌∙◌, arith}
 use Rattle.pcm_module.specs.{Asking.asked_for, State.stand_now}
-use Rattle.row_printer.specs.{declared.told.Newest.Newest, declared.told.Told.TheVariants.{Peeked, Settled}}
+use Rattle.row_printer.specs.{declared.told.PeekedLine.PeekedLine, declared.told.Told.TheVariants.{Peeked, Settled}}
 use Rattle.trace_stream.specs.Asked.{events_in}
 use Rattle.row_stream.proofs.{Backlogs.lines-both, Going.{banks-order, serving-peek}}
 use Rattle.row_stream.proofs.answering.serve_peek.Goals as goal
@@ -9,7 +9,7 @@ pub newest-bytes-requires : goal.newest-bytes-requires
 newest-bytes-requires g c =
     let s = c.requires.serving in
     let led = c.settle.ensures.replays s.serving.history (asked_for (events_in s.before)) s.serving.served.replays in
-    (omega arith, (c.requires.layout, rw c.settle.ensures.shape c.requires.exists, led.1.size))
+    (omega arith, (omega (arith, c.requires.layout.shape.1), (c.requires.layout, (rw c.settle.ensures.shape c.requires.exists, led.1.size))))
 
 pub returns-clause-serves : goal.returns-clause-serves
 returns-clause-serves g c = record {
@@ -20,7 +20,7 @@ returns-clause-serves g c = record {
       let was = c.settle.new.results.told in
       let tick = c.args.peek.now.tick in
       let line = c.args.peek.now.line in
-      let newest : List ℕ → Newest g.row.B = λ bytes. record { line = line; bytes = bytes } in
+      let newest : List ℕ → PeekedLine g.row.B = λ bytes. record { line = line; bytes = bytes } in
       let stands = stand_now c.settle.new.self (g.A.CellArray.state c.settle.new.array) line in
       let peeked : c.peeked.new.self.told ≡ was ++ Peeked tick (newest stands) ∷ [] =
       c.peeked.ensures.told ∙ ap (λ (bytes : List ℕ). was ++ Peeked tick (newest bytes) ∷ []) c.newest-bytes.ensures in

@@ -1,6 +1,6 @@
-use Rattle.std.proofs.Common.{◌≡◌, Err, ap, inl, refl}
+use Rattle.std.proofs.Common.{◌≡◌, Err, ap, inl, inr, refl}
 use Rattle.trace_stream.specs.declared.fault.StreamFault.TheVariants as fault
-use Rattle.row_stream.{specs.Stepping.TellsNoMore, proofs.Steps.asks-behind}
+use Rattle.row_stream.specs.Stepping.{TellsNoMore}
 use Rattle.row_stream.proofs.next.next_row.Goals as goal
 
 pub returns-in-Ok-next-clause-ok : goal.returns-in-Ok-next-clause-ok
@@ -39,10 +39,12 @@ pub returns-in-Ok-next-clause-waits : goal.returns-in-Ok-next-clause-waits
 returns-in-Ok-next-clause-waits g c =
     let e = c.flush.ensures in
     let told : TellsNoMore c.args.out.now c.flush.new.self = record { rows = e.rows; told = e.told; snapshots = e.snapshots; prints = e.prints } in
-    asks-behind g.K.Sink.written g.K.Sink.faults c.args.out.now c.args.source.now c.next.new.source c.args.stream.now c.flush.new.self told c.next.ensures.prompt c.in-Ok.ensures.ok
+    let asks = c.next.ensures.asks in
+    inr (c.flush.new.self, told, c.in-Ok.ensures.ok, asks.0, asks.1, asks.2)
 
 pub returns-in-Err-clause-waits : goal.returns-in-Err-clause-waits
 returns-in-Err-clause-waits g c =
     let e = c.flush.ensures in
     let told : TellsNoMore c.args.out.now c.flush.new.self = record { rows = e.rows; told = e.told; snapshots = e.snapshots; prints = e.prints } in
-    asks-behind g.K.Sink.written g.K.Sink.faults c.args.out.now c.args.source.now c.next.new.source c.args.stream.now c.flush.new.self told c.next.ensures.prompt c.in-Ok.ensures.ok
+    let asks = c.next.ensures.asks in
+    inr (c.flush.new.self, told, c.in-Ok.ensures.ok, asks.0, asks.1, asks.2)

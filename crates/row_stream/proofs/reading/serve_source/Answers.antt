@@ -2,7 +2,7 @@ use Rattle.std.proofs.Common.{◌≡◌, ◌∙◌, [], ℕ, zero, Err, ap, sym,
 use Rattle.module_shape.specs.Limits.{total_of}
 use Rattle.trace_stream.specs.Stream.{Opens}
 use Rattle.trace_stream.specs.declared.fault.StreamFault.TheVariants as fault
-use Rattle.row_stream.specs.{Serving.{IsServing, told_so_far}, declared.stop.Step.TheVariants.Stops, declared.stop.Stop.TheVariants.Output}
+use Rattle.row_stream.specs.{Serving.{IsServing, told_so_far}, declared.stop.StreamStep.TheVariants.Stops, declared.stop.Stop.TheVariants.Output}
 use Rattle.row_stream.proofs.{Refusals.{may-go-on, none-first, went-first}, Rows.{come-none, fed-come, fed-first, fed-same, next-few, open-stopped}}
 use Rattle.row_stream.proofs.{Steps.{step-ends, step-goes, step-stops}, Telling.{tells-header, tells-more}}
 use Rattle.row_stream.proofs.reading.serve_source.Goals as goal
@@ -41,7 +41,7 @@ rows-init g c = record {
   wear = refl;
   waits = λ raw seed start before first h.
       tells-header g.row.B g.row.M g.row.E raw seed g.S.Source.left g.S.Source.taken g.S.Source.faults c.args.source.now g.K.Sink.written g.K.Sink.faults before first c.args.pcm.now (g.A.CellArray.state c.args.array.now)
-      c.args.out.now.rows c.args.out.now.told c.args.out.now.prints c.args.out.now.snapshots c.open.new.source c.flush.new.self.sink start
+      c.args.out.now.rows c.args.out.now.told c.args.out.now.prints c.args.out.now.snapshots c.open.new.source c.flush.new.self.sink c.open.ensures.asks start
       (rw (← c.flush.ensures.prints, ← c.flush.ensures.told, ← c.flush.ensures.snapshots) (c.in-Ok.ensures.ok before first h));
   calm = c.in-Ok-open.ensures.no_fault (λ is. cc is);
 }
@@ -53,19 +53,19 @@ returns-in_default-clause-waits g c = λ raw seed start before first h. (zero, r
 pub returns-in-Err-clause-waits : goal.returns-in-Err-clause-waits
 returns-in-Err-clause-waits g c = λ raw seed start before first h.
     tells-header g.row.B g.row.M g.row.E raw seed g.S.Source.left g.S.Source.taken g.S.Source.faults c.args.source.now g.K.Sink.written g.K.Sink.faults before first c.args.pcm.now (g.A.CellArray.state c.args.array.now)
-    c.args.out.now.rows c.args.out.now.told c.args.out.now.prints c.args.out.now.snapshots c.open.new.source c.flush.new.self.sink start
+    c.args.out.now.rows c.args.out.now.told c.args.out.now.prints c.args.out.now.snapshots c.open.new.source c.flush.new.self.sink c.open.ensures.asks start
     (rw (← c.flush.ensures.prints, ← c.flush.ensures.told, ← c.flush.ensures.snapshots) (c.in-Ok.ensures.ok before first h))
 
 pub returns-in-Ends-clause-waits : goal.returns-in-Ends-clause-waits
 returns-in-Ends-clause-waits g c = λ raw seed start before first h.
     tells-more g.row.B g.row.M g.row.E raw seed g.S.Source.left g.S.Source.taken g.S.Source.faults c.args.source.now g.K.Sink.written g.K.Sink.faults before first c.rows.pcm (g.A.CellArray.state c.rows.array) c.rows.out
-    c.rows.source c.rows.stream c.rows.behind c.rows.counter (c.rows.invariant.came raw seed start) c.args.out.now.prints c.rows.invariant.prints c.take_next.new.source c.rows.invariant.end
+    c.rows.source c.rows.stream c.rows.behind c.rows.counter (c.rows.invariant.came raw seed start) c.args.out.now.prints c.rows.invariant.prints c.take_next.new.source
     (c.rows.invariant.printing before first h) c.take_next.ensures.waits (c.rows.invariant.waits raw seed start before first h)
 
 pub returns-in-Stops-clause-waits : goal.returns-in-Stops-clause-waits
 returns-in-Stops-clause-waits g c = λ raw seed start before first h.
     tells-more g.row.B g.row.M g.row.E raw seed g.S.Source.left g.S.Source.taken g.S.Source.faults c.args.source.now g.K.Sink.written g.K.Sink.faults before first c.rows.pcm (g.A.CellArray.state c.rows.array) c.rows.out
-    c.rows.source c.rows.stream c.rows.behind c.rows.counter (c.rows.invariant.came raw seed start) c.args.out.now.prints c.rows.invariant.prints c.take_next.new.source c.rows.invariant.end
+    c.rows.source c.rows.stream c.rows.behind c.rows.counter (c.rows.invariant.came raw seed start) c.args.out.now.prints c.rows.invariant.prints c.take_next.new.source
     (c.rows.invariant.printing before first h) c.take_next.ensures.waits (c.rows.invariant.waits raw seed start before first h)
 
 pub returns-clause-waits : goal.returns-clause-waits
@@ -104,7 +104,7 @@ rows-preserved g c =
       wear = c.take_next.ensures.wear ∙ c.rows.invariant.wear;
       waits = λ raw seed start before first h.
           tells-more g.row.B g.row.M g.row.E raw seed g.S.Source.left g.S.Source.taken g.S.Source.faults c.args.source.now g.K.Sink.written g.K.Sink.faults before first c.rows.pcm (g.A.CellArray.state c.rows.array) c.rows.out
-          c.rows.source c.rows.stream c.rows.behind c.rows.counter (c.rows.invariant.came raw seed start) c.args.out.now.prints c.rows.invariant.prints c.take_next.new.source c.rows.invariant.end
+          c.rows.source c.rows.stream c.rows.behind c.rows.counter (c.rows.invariant.came raw seed start) c.args.out.now.prints c.rows.invariant.prints c.take_next.new.source
           (c.rows.invariant.printing before first h) c.take_next.ensures.waits (c.rows.invariant.waits raw seed start before first h);
       calm = goes.0.calm;
     }

@@ -51,4 +51,4 @@ returns-clause-steps g c =
 
 pub returns-clause-waits : goal.returns-clause-waits
 returns-clause-waits g c =
-    subst (λ (s : Standing). AsksBehind g.K.Sink.written g.K.Sink.faults c.args.source.now c.take_given.new.source s c.args.out.now) c.in_default.ensures.none c.take_given.ensures.waits
+    subst (λ (s : Standing). AsksBehind g.S.Source.left g.S.Source.taken g.K.Sink.written g.K.Sink.faults c.args.source.now c.take_given.new.source s c.args.out.now) c.in_default.ensures.none c.take_given.ensures.waits

@@ -9,7 +9,7 @@ abbrev pub invariant-loop-bank : goal.invariant-loop-bank
 invariant-loop-bank g l = record {
   most : l.first ≤ l.limit;
   least : (bank : ℕ) → bank < l.bank → l.first ≤ next_end l.limit (bank_at l.pcm bank);
-  some : (l.first ≡ l.limit) ⊎ ((bank : ℕ) × (bank < l.bank) × (l.first ≡ next_end l.limit (bank_at l.pcm bank)));
+  some : (l.first ≡ l.limit) ⊎ ((bank : ℕ) × (bank < l.pcm.shape.banks) × (l.first ≡ next_end l.limit (bank_at l.pcm bank)));
   shape : IsShape l.pcm.shape;
   silent : l.out.heard ≡ false;
   later : l.pcm.tick < l.limit;

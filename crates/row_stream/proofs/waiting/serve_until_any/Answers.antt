@@ -12,7 +12,7 @@ wait_for_any-requires g c =
     let serving =
     told-same (λ k t p z. IsServing s.raw s.seed s.before c.args.pcm.now (g.A.CellArray.state c.args.array.now) k t p z)
     out.rows c.listen.new.self.rows out.told c.listen.new.self.told out.prints c.listen.new.self.prints out.snapshots c.listen.new.self.snapshots listens.rows listens.told listens.prints listens.snapshots s.serving in
-    (omega arith, (c.requires.layout, (c.requires.rises, (c.requires.in_time, (listens.heard, record { raw = s.raw; seed = s.seed; before = s.before; serving = serving })))))
+    (omega arith, (omega arith, (c.requires.layout, (c.requires.rises, (c.requires.in_time, (listens.heard, record { raw = s.raw; seed = s.seed; before = s.before; serving = serving }))))))
 
 pub returns-clause-serves : goal.returns-clause-serves
 returns-clause-serves g c = record {

@@ -129,7 +129,7 @@ turns-smaller g c =
     omega (arith, c.settle-in-Some.ensures.tick, later, some.2)
 
 pub next_turn-requires : goal.next_turn-requires
-next_turn-requires g c = (omega arith, (c.requires.layout, (c.requires.in_time, c.turns.invariant.settled)))
+next_turn-requires g c = (omega arith, (omega arith, (c.requires.layout, (c.requires.in_time, c.turns.invariant.settled))))
 
 pub returns-clause-serves : goal.returns-clause-serves
 returns-clause-serves g c = record {

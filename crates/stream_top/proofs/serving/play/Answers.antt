@@ -1,8 +1,8 @@
 use Rattle.std.proofs.Common.{◌≡◌, ◌∙◌, ℕ, List, Bool, inl, inr, Err, ap, subst}
 use Rattle.row_printer.specs.{Printing.table_told, declared.snapshot.Snapshot.Snapshot, declared.told.Shown.Shown, declared.told.Told.Told}
 use Rattle.row_stream.{specs.Serving.told_so_far, proofs.Alike.told-same}
-use Rattle.stream_top.specs.{Calls.source_between, Streams.{GoesAsFarAs, HasPlayed, StopsBy, done_by, has_stopped, told_of_rows}, declared.fault.Fault.Fault}
-use Rattle.stream_top.{specs.declared.fault.Fault.TheVariants.Write, proofs.Playing.stopped-of}
+use Rattle.stream_top.specs.{Calls.source_between, Streams.{GoesAsFarAs, HasPlayed, StopsBy, done_by, has_stopped, told_of_rows}, declared.fault.StreamRunFault.StreamRunFault}
+use Rattle.stream_top.{specs.declared.fault.StreamRunFault.TheVariants.Write, proofs.Playing.stopped-of}
 use Rattle.stream_top.proofs.serving.play.Goals as goal
 
 pub returns-in-Err-clause-part : goal.returns-in-Err-clause-part
@@ -19,7 +19,7 @@ returns-in-Err-clause-broken g c = λ is.
     let same : c.in-Err.fault ≡ Write = cc in
     let s = c.in-Err.ensures.stopped in
     let source = source_between g.S.Source.left g.S.Source.taken g.S.Source.faults c.args.source.now c.serve_rows.new.source in
-    let By : Fault → Type 0 = λ f. StopsBy g.row.B g.row.M g.row.E c.args.job.now source c.args.job.now.input f s.0 × GoesAsFarAs g.row.B g.row.M g.row.E c.args.job.now source f s.0 (told_so_far s.1) in
+    let By : StreamRunFault → Type 0 = λ f. StopsBy g.row.B g.row.M g.row.E c.args.job.now source c.args.job.now.input f s.0 × GoesAsFarAs g.row.B g.row.M g.row.E c.args.job.now source f s.0 (told_so_far s.1) in
     let both = subst By same (s.2, s.3) in
     (s.0, inr (s.1, both.0, both.1))
 

@@ -1,5 +1,5 @@
 use Rattle.std.proofs.Common.{◌≡◌, ◌+◌, ◌-◌, ◌<◌, ◌∙◌, ap, subst, arith, add-one}
-use Rattle.atomic_sectors.{specs.Lines.stand, specs.Sectors.{IsMapped, block_of, total}, proofs.Filling.is_free, proofs.Fitting.sectors_few}
+use Rattle.atomic_sectors.{specs.Lines.stand, specs.Sectors.{IsMapped, block_of, total, word_line}, proofs.Filling.is_free, proofs.Fitting.{sectors_few, line_stays}, proofs.Places.words_of}
 use Rattle.atomic_sectors.proofs.sectors.Sectors.open.Goals as goal
 
 pub loop-sector-preserved : goal.loop-sector-preserved
@@ -7,8 +7,9 @@ loop-sector-preserved g c =
     let lines = stand g.row.B (g.L.Lines.made c.args.lines.now) in
     let s = c.loop-sector.sector in
     let within : s < c.args.layout.sectors = c.loop-sector-test.true in
-    let block : c.in_ok-find_block.field-0 ≡ block_of g.row.B c.args.layout lines s =
-    c.in_ok-find_block.ensures.block ∙ ap (λ ws. block_of g.row.B c.args.layout (stand g.row.B ws) s) c.loop-sector.invariant.made in
+    let held : stand g.row.B (g.L.Lines.made c.args.lines.now) (word_line g.row.B c.args.layout s) ≡ c.next_word.new.held =
+    subst (λ ws. stand g.row.B ws (word_line g.row.B c.args.layout s) ≡ c.next_word.new.held) c.loop-sector.invariant.made c.in_ok-next_word.ensures.held in
+    let block : c.block_in.result ≡ block_of g.row.B c.args.layout lines s = c.block_in.ensures lines held in
     let exists = c.requires.whole.1.exists s within in
     let few = sectors_few g.row.B c.args.layout _ c.requires.fits in
     record {
@@ -16,9 +17,10 @@ loop-sector-preserved g c =
       used = rw add-one (omega (arith, block));
       all_few = omega (arith, few);
       used_few = omega (arith, few, block, exists);
-      made = c.find_block.ensures.made ∙ c.loop-sector.invariant.made;
-      stops = omega (arith, c.loop-sector.invariant.stops, c.find_block.ensures.never_falls);
-      kind = c.find_block.ensures.kind ∙ c.loop-sector.invariant.kind;
+      held = λ inside. ap lines (line_stays g.row.B c.args.layout s (words_of g.row.B c.requires.fits.words) inside) ∙ held;
+      made = c.next_word.ensures.made ∙ c.loop-sector.invariant.made;
+      stops = omega (arith, c.loop-sector.invariant.stops, c.next_word.ensures.never_falls);
+      kind = c.next_word.ensures.kind ∙ c.loop-sector.invariant.kind;
     }
 
 pub overflow_sub-result : goal.overflow_sub-result
@@ -35,5 +37,5 @@ returns-clause-free g c =
     let end : c.loop-sector.sector ≡ c.args.layout.sectors = omega arith in
     let all : c.loop-sector.all ≡ total c.args.layout.sectors (λ block. block) = c.loop-sector.invariant.all ∙ ap (λ k. total k (λ block. block)) end in
     let used : c.loop-sector.used ≡ total c.args.layout.sectors (block_of g.row.B c.args.layout lines) = c.loop-sector.invariant.used ∙ ap (λ k. total k (block_of g.row.B c.args.layout lines)) end in
-    let is : c.loop-sector.all + c.args.layout.sectors - c.loop-sector.used ≡ c.loop-sector.all + c.from-2.result - c.loop-sector.used = omega arith in
+    let is : c.loop-sector.all + c.args.layout.sectors - c.loop-sector.used ≡ c.loop-sector.all + c.from.result - c.loop-sector.used = omega arith in
     subst (λ free. IsMapped g.row.B c.args.layout lines free) is (is_free g.row.B c.args.layout lines c.loop-sector.all c.loop-sector.used c.requires.whole all used)

@@ -1,8 +1,7 @@
 use Rattle.std.proofs.Common.{◌*◌, ◌∙◌, ap, sym, arith}
 use Rattle.std.proofs.lemmas.List.FromFn.{get_or-map-range_with_len}
 use Rattle.cell_rows.specs.Rows.{zero_row}
-use Rattle.pcm_image.specs.Saved.{array_lines_in}
-use Rattle.large_image.specs.Views.{head_view}
+use Rattle.pcm_image.specs.{Giving.head_view, Saved.array_lines_in}
 use Rattle.large_reader.specs.Rows.{listed}
 use Rattle.large_reader.proofs.image.LargeImage.row.Goals as goal
 

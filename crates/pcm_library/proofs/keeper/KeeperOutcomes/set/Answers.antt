@@ -2,7 +2,7 @@ use Rattle.std.proofs.Common.{◌≡◌, List, ℕ, [], ◌∷◌, ◌++◌, ◌
 use Rattle.std.proofs.lemmas.List.{length_push}
 use Rattle.result_rows.{specs.declared.Outcome.Outcome, proofs.Sizes.outcome_fits}
 use Rattle.row_printer.{specs.Telling.outcomes_in, proofs.Telling.{heard-one, outcomes-more}}
-use Rattle.pcm_library.{specs.Keeping.{kept_of, kept_pairs}, specs.declared.keeper.Kept.Kept, proofs.Counting.some-untold}
+use Rattle.pcm_library.{specs.Keeping.{kept_of, kept_pairs}, specs.declared.keeper.KeptOutcome.KeptOutcome, proofs.Counting.some-untold}
 use Rattle.ghost_list.specs.Items.{items}
 use Rattle.pcm_library.proofs.{Keeping.{pairs-more, table-set, tells-next}, Sizes.kept_fits}
 use Rattle.pcm_library.proofs.keeper.KeeperOutcomes.set.Goals as goal
@@ -28,7 +28,7 @@ invariant_of-self g c =
     let exists = rw (← c.self.view_is) at c.requires.exists in
     let unset = rw (← c.self.view_is) at c.requires.unset in
     let told = items c.self.inside.told in
-    let one : Kept g.row.B = kept_of c.args.row c.args.outcome in
+    let one : KeptOutcome g.row.B = kept_of c.args.row c.args.outcome in
     let next = tells-next c.self.inside.rows (outcomes_in told) c.args.row c.args.outcome c.self.invariant.once exists unset c.requires.told in
     let some = some-untold c.self.inside.rows c.self.inside.untold (outcomes_in told) (c.args.row, c.args.outcome) c.self.invariant.counted next in
     let size : length (outcomes_in told ++ (c.args.row, c.args.outcome) ∷ []) ≡ length (outcomes_in told) + 1 = length_push (outcomes_in told) (c.args.row, c.args.outcome) in

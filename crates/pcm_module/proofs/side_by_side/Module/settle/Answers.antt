@@ -1,4 +1,4 @@
-use Rattle.std.proofs.Common.{◌≤◌, refl, sym, subst}
+use Rattle.std.proofs.Common.{◌<◌, ◌≤◌, refl, sym, subst}
 use Rattle.pcm_module.{specs.Replaying.IsReplayed, specs.Settling.AreSettled, specs.State.ModuleState, proofs.Settles.{may_settle, settle_every, module_settled}}
 use Rattle.pcm_module.proofs.{Views.state_of, side_by_side.Module.settle.Given.Over, side_by_side.Module.settle.Goals.After-settle_all}
 use Rattle.pcm_module.proofs.side_by_side.Module.settle.Goals as goal
@@ -12,7 +12,7 @@ settle_all-requires g c = (
 
 -- all banks have come to the tick
 settled : (g : Over) (c : After-settle_all g)
-    → AreSettled c.args.tick (state_of c.self.inside) c.self.inside.shape.banks c.settle_all.new.banks.items (g.A.CellArray.state c.args.array.now) (g.A.CellArray.state c.settle_all.new.array) (g.R.Outcomes.table c.args.results.now) (g.R.Outcomes.table c.settle_all.new.results)
+    → AreSettled c.args.tick (state_of c.self.inside) (λ bank. bank < c.self.inside.shape.banks) c.settle_all.new.banks.items (g.A.CellArray.state c.args.array.now) (g.A.CellArray.state c.settle_all.new.array) (g.R.Outcomes.table c.args.results.now) (g.R.Outcomes.table c.settle_all.new.results)
 settled g c = c.settle_all.ensures.settled (state_of c.self.inside) (may_settle c.self.view_is c.self.invariant c.requires.forward c.requires.within c.requires.replays)
 
 forward : (g : Over) (c : After-settle_all g) → (state_of c.self.inside).tick ≤ c.args.tick

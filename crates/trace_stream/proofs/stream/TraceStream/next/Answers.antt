@@ -69,3 +69,22 @@ pub returns-in-Ok-clause-waits : goal.returns-in-Ok-clause-waits
 returns-in-Ok-clause-waits g c =
     let asks = sym c.in-Ok.ensures in
     rw (← c.self.view_is) (asked-waits g.row.B c.self.inside.lines c.self.inside.rows c.self.inside.tick c.next.new.self.kept.fields c.in-Ok.asked asks)
+
+-- the source is asked for no more than a record
+pub returns-in-Some-clause-asks : goal.returns-in-Some-clause-asks
+returns-in-Some-clause-asks g c = (0, [], (refl, refl))
+
+pub returns-in_err-next-clause-asks : goal.returns-in_err-next-clause-asks
+returns-in_err-next-clause-asks g c = rw (← c.self.view_is) c.next.ensures.asks
+
+pub returns-then-not-branch-clause-asks : goal.returns-then-not-branch-clause-asks
+returns-then-not-branch-clause-asks g c = rw (← c.self.view_is) c.next.ensures.asks
+
+pub returns-then-is_past-clause-asks : goal.returns-then-is_past-clause-asks
+returns-then-is_past-clause-asks g c = rw (← c.self.view_is) c.next.ensures.asks
+
+pub returns-in-Ok-clause-asks : goal.returns-in-Ok-clause-asks
+returns-in-Ok-clause-asks g c = rw (← c.self.view_is) c.next.ensures.asks
+
+pub returns-in-Err-clause-asks : goal.returns-in-Err-clause-asks
+returns-in-Err-clause-asks g c = rw (← c.self.view_is) c.next.ensures.asks

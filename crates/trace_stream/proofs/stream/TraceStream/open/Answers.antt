@@ -1,6 +1,8 @@
 use Rattle.std.proofs.Common.{◌≡◌, ◌++◌, ◌∙◌, ap, refl, sym, arith}
 use Rattle.std.{specs.Prelude.Err, proofs.lemmas.List.length-append, proofs.lemmas.Result.err_from_is_err_and}
 use Rattle.trace_stream.{specs.Machine.state_of, specs.Stream.Standing, specs.declared.fault.StreamFault.TheVariants.{Endless, Read}, proofs.Marks.lacks-more}
+use Rattle.trace_stream.{specs.Kept.LacksHeader, specs.Requests.LacksRow, proofs.Requests.asks-asks}
+use Rattle.csv.specs.declared.parser.State.TheVariants.{StartRecord}
 use Rattle.trace_stream.proofs.Rows.{opens, opens-none, opens-wrong}
 use Rattle.trace_stream.proofs.stream.TraceStream.open.Goals.{then-not-found-via-then-not-found, then-not-found-via-else-not-found+then-not-is_header_row}
 use Rattle.trace_stream.proofs.stream.TraceStream.open.Goals as goal
@@ -57,3 +59,31 @@ returns-in_err-found-clause-sparing g c =
     let same : c.in_err-found.field-0.0 ≡ Read = cc is in
     let next = c.in_err-found.ensures.sparing (ap Err same) in
     (begun.0 ++ next.0, Takes-Takes _ _ _ _ _ _ _ _ begun.1 next.1, lacks-more _ _ _ begun.2 next.2 next.3))
+
+-- the source is asked for no more than the header
+pub returns-in_default-clause-asks : goal.returns-in_default-clause-asks
+returns-in_default-clause-asks g c = c.in_default.ensures.asks
+
+pub returns-in_err-found-clause-asks : goal.returns-in_err-found-clause-asks
+returns-in_err-found-clause-asks g c =
+    let begun = c.in-Ok.ensures.ok in
+    let next = c.next.ensures.asks in
+    let asked = asks-asks g.S.Source.left g.S.Source.taken LacksHeader (LacksRow StartRecord c.in-Ok.incoming) c.args.source.now c.begin.new.source c.next.new.source begun.3 next.0 begun.0 next.1 begun.4 next.2
+    (λ came lacks. lacks-more c.in-Ok.incoming begun.0 came begun.2 lacks.0 lacks.1) in
+    (asked.0, begun.0 ++ next.1, asked.1)
+
+pub returns-then-not-found-clause-asks : goal.returns-then-not-found-clause-asks
+returns-then-not-found-clause-asks g c =
+    let begun = c.in-Ok.ensures.ok in
+    let next = c.next.ensures.asks in
+    let asked = asks-asks g.S.Source.left g.S.Source.taken LacksHeader (LacksRow StartRecord c.in-Ok.incoming) c.args.source.now c.begin.new.source c.next.new.source begun.3 next.0 begun.0 next.1 begun.4 next.2
+    (λ came lacks. lacks-more c.in-Ok.incoming begun.0 came begun.2 lacks.0 lacks.1) in
+    (asked.0, begun.0 ++ next.1, asked.1)
+
+pub returns-clause-asks : goal.returns-clause-asks
+returns-clause-asks g c =
+    let begun = c.in-Ok.ensures.ok in
+    let next = c.next.ensures.asks in
+    let asked = asks-asks g.S.Source.left g.S.Source.taken LacksHeader (LacksRow StartRecord c.in-Ok.incoming) c.args.source.now c.begin.new.source c.next.new.source begun.3 next.0 begun.0 next.1 begun.4 next.2
+    (λ came lacks. lacks-more c.in-Ok.incoming begun.0 came begun.2 lacks.0 lacks.1) in
+    (asked.0, begun.0 ++ next.1, asked.1)
