@@ -18,13 +18,13 @@ def mounted(place):
 class Disk(Server):
     """A server of a disk, and what is mounted of it."""
 
-    def __init__(self, pcm, parameters, log=None, cuts=False):
+    def __init__(self, pcm, parameters, log=None, cuts=False, fds=()):
         need({"nbdfuse": "nbdfuse", "fusermount3": "fuse3", "nbdcopy": "libnbd-bin", "mkfs.ext4": "e2fsprogs", "losetup": "mount"})
         if os.geteuid() != 0:
             print(f"{os.path.basename(sys.argv[0])}: it mounts a file system, which needs root", file=sys.stderr)
             sys.exit(77)
         self.fuse = self.loop = None
-        super().__init__(pcm, parameters, log, cuts)
+        super().__init__(pcm, parameters, log, cuts, fds)
         self.file, self.mount = self.dir / "disk", self.dir / "mnt"
         self.file.touch()
         self.mount.mkdir()

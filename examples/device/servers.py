@@ -87,8 +87,8 @@ def parameters_of(log):
 class Server:
     """It lives in a folder of its own, which goes away with the script, as the server does."""
 
-    def __init__(self, pcm, parameters, log=None, cuts=False):
-        """`log`: a file of the caller's, or True for one in the server's folder. `cuts`: cuts will be asked for."""
+    def __init__(self, pcm, parameters, log=None, cuts=False, fds=()):
+        """`log`: a file of the caller's, or True for one in the server's folder. `cuts`: cuts will be asked for. `fds`: what the relay is handed."""
         need({})
         self.dir = pathlib.Path(tempfile.mkdtemp(prefix="pcm-device-"))
         self.process, self.open = None, []
@@ -103,7 +103,7 @@ class Server:
         if cuts and not any(it.startswith("on-cut=") for it in parameters):
             words.append("on-cut=ask")
         with open(self.dir / "said", "w") as said:
-            self.process = subprocess.Popen([sys.executable, RELAY, self.sock, *words], stderr=said)
+            self.process = subprocess.Popen([sys.executable, RELAY, self.sock, *words], stderr=said, pass_fds=fds)
         while not self.sock.exists() and self.process.poll() is None:
             time.sleep(0.01)
 

@@ -1,5 +1,6 @@
 """What a relay asks its program: each request as often as power cuts want it, its log, and what became of all."""
-from typing import Optional
+import io
+from typing import Optional, Tuple
 
 import frames
 from cached import Cache, pieces
@@ -12,6 +13,19 @@ from words import Words, Wrong
 BURST = 65536  # bytes of a read by which time passes
 
 
+class Attached(frames.Client):
+    """A client of a program that another one has greeted."""
+
+    def __init__(self, to: io.FileIO, back: io.FileIO, size: int) -> None:  # pylint: disable=super-init-not-called
+        self.to, self.back, self.size, self.cookie = to, back, size, 0
+
+    def end(self, last: bytes = b"") -> Tuple[int, str]:
+        """It isn't asked any more."""
+        self.to.close()
+        self.back.close()
+        return 0, ""
+
+
 class Disk:
     """The program, its log, and what became of requests."""
 
@@ -22,11 +36,8 @@ class Disk:
         self.counts = dict(requests=0, reads=0, writes=0, flushes=0, read_bytes=0, written_bytes=0, read_only=0)
         self.log: Optional[Log] = None
         self.cache: Optional[Cache] = None
-        self.program = frames.Client(words.program(), None)
-        try:
-            self.program.__enter__()
-        except (EOFError, BrokenPipeError):
-            raise Wrong(f"{words.program()[0]} disk: it has ended: {' '.join(words.program()[2:])}") from None
+        self.behind = 0  # how many requests of its log the program has answered
+        self.program = self.begin()
         self.size = self.program.size
         if int(own["cache"]):
             self.cache = Cache(int(own["cache"]), self.sector, seed, lambda at, size: self.through(frames.READ, at, size),
@@ -34,12 +45,23 @@ class Disk:
         if own["log"]:
             self.begin_log()
 
+    def begin(self) -> frames.Client:
+        """The program is started, or is there already."""
+        if self.words.own["attached"]:
+            to, back, size, self.behind = map(int, self.words.own["attached"].split(","))
+            return Attached(io.FileIO(to, "w"), io.FileIO(back), size)
+        program = frames.Client(self.words.program(), None)
+        try:
+            return program.__enter__()
+        except (EOFError, BrokenPipeError):
+            raise Wrong(f"{self.words.program()[0]} disk: it has ended: {' '.join(self.words.program()[2:])}") from None
+
     def begin_log(self) -> None:
         """What was logged is asked again."""
         only = self.words.own["log-requests"]
         log = Log(self.words.own["log"], self.words.of_options(), int(only) if only else None)
         for number, it in enumerate(log.again(), 1):
-            error = it.error if it.command == NOTE else self.once(it.command, it.at, it.size, it.data, it.flags).error
+            error = it.error if it.command == NOTE or number <= self.behind else self.once(it.command, it.at, it.size, it.data, it.flags).error
             if error != it.error:
                 raise Fault(f"{log.name}, request {number}: it is answered otherwise: another program has written the log")
             if error == frames.SHUTDOWN:

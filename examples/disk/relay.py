@@ -9,6 +9,7 @@ KEY=VALUE are options of pcm disk (misses=3 sector=512 cut-seed=5), and of its o
     size=N              regions and lines so that the module has N bytes at least; 8 MiB of lines of 128 bytes where nothing is said
     log=FILE            all requests (recorded.py); where it has some, the disk is what they leave, and goes on from there
     log-requests=N      the disk as the first N requests of the log left it; FILE stays as it is
+    attached=IN,OUT,SIZE,REQUESTS  descriptors of a program that has answered so many requests of the log
     report=FILE         what the export `cut` tells, in the end
     on-cut=drop         clients that there are get EIO from a power cut on, and new ones find the power on
     on-cut=ask          so it is where a cut was asked for; through all others what they ended is asked again, and nobody notices
@@ -136,17 +137,17 @@ class Relay:
 
 def serve(words: Words, path: pathlib.Path, command: Optional[str]) -> int:
     """Serves to the end; the status."""
-    disk, status = Disk(words), 1
+    disk, status, ended = Disk(words), 1, 1
     try:
         status = Relay(disk, path, command).run()
-        disk.program.end()
+        ended = disk.program.end()[0]
     except (EOFError, BrokenPipeError):
         print(f"relay.py: the program {words.program()[0]} has ended: so does the relay. One on its log goes on from there", file=sys.stderr)
-        disk.program.end(b"")
+        ended = disk.program.end(b"")[0]
     finally:
         path.unlink(missing_ok=True)
         if words.own["report"]:
-            pathlib.Path(words.own["report"]).write_text(f"{disk.told()}status {disk.program.program.returncode}\n", encoding="ascii")
+            pathlib.Path(words.own["report"]).write_text(f"{disk.told()}status {ended}\n", encoding="ascii")
     return status
 
 

@@ -3,7 +3,7 @@ import os
 import re
 from typing import Dict, List
 
-OWN = {"pcm": "", "size": "", "log": "", "log-requests": "", "report": "", "on-cut": "drop", "cut-requests": "0", "tear": "prefix", "cache": "0"}
+OWN = {"pcm": "", "size": "", "log": "", "log-requests": "", "attached": "", "report": "", "on-cut": "drop", "cut-requests": "0", "tear": "prefix", "cache": "0"}
 WORDS = {"on-cut": ("drop", "ask", "ride"), "tear": ("prefix", "any")}
 SHAPE = {"banks": "16", "regions": "16", "lines": "256", "line": "128"}
 CUTS = 1000000
@@ -36,6 +36,8 @@ class Words:
         for key, value in given.items():
             if value not in WORDS.get(key, (value,)):
                 raise Wrong(f"{key}={value}: it is one of {', '.join(WORDS[key])}")
+            if key == "attached" and not re.fullmatch("[0-9]+(,[0-9]+){3}", value):
+                raise Wrong("attached=IN,OUT,SIZE,REQUESTS: descriptors of a program that was greeted, its disk's bytes, and how many requests it has answered")
             if key in ("size", "log-requests", "cut-requests", "cache") and not re.fullmatch("[0-9]{1,15}", value):
                 raise Wrong(f"{key}={value}: it is a number")
             (self.own if key in OWN else self.options)[key] = value
