@@ -12,7 +12,7 @@ use types.Run.{enter, of_opd, stop, fld, no_more, and_then, returns}
 use contract.{Monad.{fact, fact_i}, Running.tables}
 use denote.{Builtin.RawPtr, Exit.yes, RattleType.{RattleType, Valss, owns}, RawPtr.block_ptr, Signature.{plain, types_at}, Steps.nothing, Struct.Owning.shape, Struct.Struct.within}
 use denote.Triple.Walked.{Stays, stay_dropped, walk_of, Goes-dropped}
-use Rattle.pcm_c.{specs.declared.handle.Handle.Handle, proofs.Steps.{H, R}, proofs.Values.{both, Loose, loose_good, loose_out}, proofs.handle.Handle.from_loose.Statement.statement}
+use Rattle.pcm_c.{specs.declared.handle.Handle.Handle, proofs.Steps.{R}, proofs.Values.{both, Loose, loose_good, loose_out}, proofs.handle.Handle.from_loose.Statement.statement}
 use Rattle.pcm_c.specs.contracts.handle.Handle as handle
 use Rattle.pcm_c.specs.contracts.handle.Handle.from_loose as f
 use Rattle.pcm_c.proofs.handle.Handle.from_loose.Code as code
