@@ -159,17 +159,17 @@ class Linked:
         if status != _OK:
             raise self._fault(status)
 
-    def settle(self, number: int, op: str, tick: int, row: int) -> int:
+    def settle(self, number: int, op: str, tick: int, row: Optional[int]) -> int:
         """The module settles; answers the tick that was reached."""
         self._tick.value = tick
         if op == "P":
-            self._line = row
-        if op == "U" and row == 0:
-            status = self._calls.pcm_module_settle_any(self._at, self._tick)
-        elif op == "U":
-            status = self._calls.pcm_module_settle_until(self._at, ctypes.c_uint32(row), self._tick)
-        else:
+            self._line = row or 0
+        if op != "U":
             status = self._calls.pcm_module_settle(self._at, self._tick)
+        elif row is None:
+            status = self._calls.pcm_module_settle_any(self._at, self._tick)
+        else:
+            status = self._calls.pcm_module_settle_until(self._at, ctypes.c_uint32(row), self._tick)
         if status != _OK:
             raise self._fault(status)
         return tick if op != "U" else int(self._calls.pcm_module_tick(self._at))

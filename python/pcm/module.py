@@ -169,7 +169,7 @@ class Module:
     def settle_any(self, tick: int) -> List[Outcome]:
         """The same, until any row has its outcome that had none: to the first tick behind which something is to tell, and to `tick` where nothing is by
         then."""
-        self._settle("U", tick)
+        self._settle("U", tick, None)
         return self._way.take()
 
     def peek(self, line: int, tick: Optional[int] = None) -> bytes:
@@ -242,11 +242,11 @@ class Module:
             return self.cut(row.tick)
         raise TypeError(f"no row of a trace: {row!r}")
 
-    def _settle(self, op: str, tick: int, row: int = 0, is_right: bool = True) -> None:
-        """Hands a row that settles in, and waits for its answer."""
+    def _settle(self, op: str, tick: int, row: Optional[int] = 0, is_right: bool = True) -> None:
+        """Hands a row that settles in, which names this row or line, None where it is any, and waits for its answer."""
         if not (is_right and self._takes_rows and type(tick) is int and self.tick <= tick <= LATEST_TICK):
             self._look_at(op, tick, row, b"")
-            tick, row = int(tick), int(row)
+            tick, row = int(tick), None if row is None else int(row)
         self.tick = self._way.settle(self._rows + 1, op, tick, row)
 
     def _hand(self, op: str, tick: int, line: int, data: Given = b"", is_right: bool = True) -> int:
@@ -261,7 +261,7 @@ class Module:
         self._rows, self.tick = number, tick
         return number
 
-    def _look_at(self, op: str, tick: int, number: int, data: Given) -> None:
+    def _look_at(self, op: str, tick: int, number: Optional[int], data: Given) -> None:
         """Refuses a row that can't be one. (A number of another type may be right: its text tells.)"""
         if not self._takes_rows:
             raise ValueError("the module is closed" if self._is_closed else "no more rows are taken")

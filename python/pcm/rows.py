@@ -16,9 +16,9 @@ def masked(data: Sequence[Optional[int]]) -> str:
 Given = Union[bytes, str]
 
 
-def text_of(op: str, tick: int, number: int, data: Given) -> str:
-    """The text of a row by its letter and its number: a line, or the row that a settle until waits for, 0 where that is any."""
-    named = str(number) if op in "RWMP" or (op == "U" and number) else ""
+def text_of(op: str, tick: int, number: Optional[int], data: Given) -> str:
+    """The text of a row by its letter and its number: a line, or the row that a settle until waits for, None where that is any."""
+    named = "" if number is None or op not in "RWMPU" else str(number)
     return f"{tick},{op},{named},{data if isinstance(data, str) else data.hex()}\n"
 
 

@@ -84,7 +84,7 @@ class Streamed:
         self._out += text.encode()
         self._unread.append(Handed(number, self._tick, text))
 
-    def settle(self, number: int, op: str, tick: int, row: int) -> int:
+    def settle(self, number: int, op: str, tick: int, row: Optional[int]) -> int:
         """Hands a row that settles in, waits for its answer, and answers the tick that was reached."""
         self._backlogs, self._wear, self._newest, self._settled = [], None, None, None
         self.gather(number, text_of(op, tick, row, b""))

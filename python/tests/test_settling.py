@@ -78,6 +78,10 @@ class Looking:
             self.assertEqual(pcm.Wear(35, 2, 2, 0, 0, 4, 512, 256), module.wear())
             self.assertEqual((35, 2), (module.tick, row))
 
+
+class Peeking:
+    """What the program does, and no stand-in: it tells newest bytes and all of a module, and waits for any row."""
+
     def test_the_newest_bytes_of_a_line_are_told(self):
         with pcm.Module(**SMALL) as module:
             self.assertEqual(bytes(64), module.peek(0))
@@ -142,7 +146,7 @@ class Telling:
             self.assertEqual([], module.finish())
 
 
-class OverTheProgram(Waiting, Looking, Telling, unittest.TestCase):
+class OverTheProgram(Waiting, Looking, Peeking, Telling, unittest.TestCase):
     def test_a_shape_beside_words_that_are_none_is_a_fault(self):
         with pcm.Module(way="program", tell="shape", lines=5) as module, self.assertRaises(pcm.UsageError):
             self.assertIsNone(module.shape)
